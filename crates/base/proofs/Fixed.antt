@@ -1,0 +1,38 @@
+-- Each public contract of the crate determines what its function answers and leaves.
+use denote.Ref.{now}
+use Rattle.base.specs.Refusals.{numberOf}
+use Rattle.base.specs.Determined.{Determined, both}
+use Rattle.base.proofs.Determine.{by-equation, by-answer}
+use Rattle.base.proofs.Refusals.{number-same, seen, seen-same}
+use Rattle.base.proofs.RingError.number.Reads as number
+use Rattle.base.proofs.RingError.numbered.Reads as numbered
+use Rattle.base.proofs.pick.pick16.Reads as pick16
+use Rattle.base.proofs.pick.ends_by.Reads as ends-by
+use Rattle.base.proofs.bytes.word16.Reads as word16
+use Rattle.base.proofs.bytes.word32.Reads as word32
+use Rattle.base.proofs.bytes.put.Reads as put
+use Rattle.base.proofs.bytes.zero.Reads as zero
+
+pub number-fixed : Determined number.Post (λ r s. r)
+number-fixed = by-equation _ _ _ (λ κ a r s p. p)
+
+pub numbered-fixed : Determined numbered.Post (λ r s. r)
+numbered-fixed = by-answer _ _ numberOf number-same _ (λ κ a r s p. p)
+
+pub pick16-fixed : Determined pick16.Post (λ r s. r)
+pick16-fixed = by-equation _ _ _ (λ κ a r s p. p)
+
+pub ends-by-fixed : Determined ends-by.Post (λ r s. r)
+ends-by-fixed = by-equation _ _ _ (λ κ a r s p. p)
+
+pub word16-fixed : Determined word16.Post (λ r s. r)
+word16-fixed = by-equation _ _ _ (λ κ a r s p. p)
+
+pub word32-fixed : Determined word32.Post (λ r s. r)
+word32-fixed = by-equation _ _ _ (λ κ a r s p. p)
+
+pub put-fixed : Determined put.Post (λ r s. both r (now (s .0)))
+put-fixed = by-answer _ _ seen seen-same _ (λ κ a r s p. p)
+
+pub zero-fixed : Determined zero.Post (λ r s. both r (now (s .0)))
+zero-fixed = by-answer _ _ seen seen-same _ (λ κ a r s p. p)

@@ -1,0 +1,6 @@
+pub mod Tests
+pub mod Refusals
+pub mod Words
+pub mod Runs
+pub mod Determine
+pub mod Fixed

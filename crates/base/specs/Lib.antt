@@ -1,0 +1,4 @@
+pub mod Refusals
+pub mod Answer
+pub mod Bytes
+pub mod Determined
