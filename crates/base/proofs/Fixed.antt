@@ -10,6 +10,7 @@ use Rattle.base.proofs.pick.pick16.Reads as pick16
 use Rattle.base.proofs.pick.ends_by.Reads as ends-by
 use Rattle.base.proofs.bytes.word16.Reads as word16
 use Rattle.base.proofs.bytes.word32.Reads as word32
+use Rattle.base.proofs.bytes.word64.Reads as word64
 use Rattle.base.proofs.bytes.put.Reads as put
 use Rattle.base.proofs.bytes.zero.Reads as zero
 
@@ -30,6 +31,9 @@ word16-fixed = by-equation _ _ _ (λ κ a r s p. p)
 
 pub word32-fixed : Determined word32.Post (λ r s. r)
 word32-fixed = by-equation _ _ _ (λ κ a r s p. p)
+
+pub word64-fixed : Determined word64.Post (λ r s. r)
+word64-fixed = by-equation _ _ _ (λ κ a r s p. p)
 
 pub put-fixed : Determined put.Post (λ r s. both r (now (s .0)))
 put-fixed = by-answer _ _ seen seen-same _ (λ κ a r s p. p)

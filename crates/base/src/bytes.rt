@@ -3,7 +3,7 @@ ghost use mathlib.Core.Path.{_≡_};
 ghost use mathlib.Core.List.{[], _∷_};
 ghost use lib.ListN.{length, replicate};
 ghost use lib.Seq.{sets};
-ghost use Prim.Native.Nat.{_+_, _≤_};
+ghost use Prim.Native.Nat.{_+_, _*_, _^_, _≤_};
 ghost use Rattle.base.specs.Answer.{outcome, answerOf};
 ghost use Rattle.base.specs.Bytes.{wordAt, putOf};
 use crate::Reply;
@@ -21,6 +21,12 @@ pub fn word32(b0: u8, b1: u8, b2: u8, b3: u8) -> u32
     ensures { λ r. ⌜ r ≡ wordAt (b0 ∷ b1 ∷ b2 ∷ b3 ∷ []) 0 4 ⌝ }
 {
     (b0 as u32) + 256 * ((b1 as u32) + 256 * ((b2 as u32) + 256 * (b3 as u32)))
+}
+
+pub fn word64(low: u32, high: u32) -> u64
+    ensures { λ r. ⌜ r ≡ low + 256 ^ 4 * high ⌝ }
+{
+    (low as u64) + 4294967296 * (high as u64)
 }
 
 // The bytes b from place `at` on: one loop for every width that is stored.

@@ -1,0 +1,129 @@
+-- The flags word: its parts do not overlap, and marking and testing agree.
+-- Assumes nothing.
+use Prim.Native.Nat.{ℕ, _+_, _*_, _/_, _%_, _<_}
+use mathlib.Core.Path.{_≡_, refl, sym, _∙_, ap}
+use mathlib.Core.Bool.{Bool, true, false, not, cond, _&&_, Bool·beq}
+use native.Mathlib.Omega.{arith}
+use lib.Dec.{eqb}
+use borrow.Author.Tests.{eq-eqb, ne-eqb}
+use Rattle.desc.specs.declared.Descriptor.{Descriptor}
+use Rattle.desc.specs.Flags.{NEXT, WRITE, INDIRECT, AVAIL, USED, others, has, isAvail, isUsed}
+use Rattle.desc.specs.Desc.{markAvail, markUsed}
+
+-- what a mark leaves: a 16-bit word, in which the other bits are the ones that were there
+module _ (f : ℕ) where
+  pub avail-fits : (w : Bool) → others f + cond w AVAIL USED < 65536
+  avail-fits true = omega arith
+  avail-fits false = omega arith
+
+  pub used-fits : (w : Bool) → others f + cond w (AVAIL + USED) 0 < 65536
+  used-fits true = omega arith
+  used-fits false = omega arith
+
+  -- the digits of a word: seven low bits, AVAIL, seven bits, USED
+  digits :
+      (b u : ℕ) → b < 2 → u < 2
+      → ((others f + (b * AVAIL + u * USED)) % 128 ≡ f % 128) × ((others f + (b * AVAIL + u * USED)) / 256 % 128 ≡ f / 256 % 128)
+  digits b u hb hu =
+      let r = f % 128 in
+      let q = f / 256 % 128 in
+      let lr : r < 128 = omega arith in
+      let lq : q < 128 = omega arith in
+      (parted r q b u lr lq hb hu .0, parted r q b u lr lq hb hu .1)
+    where
+      parted :
+          (r q b u : ℕ) → r < 128 → q < 128 → b < 2 → u < 2
+          → ((r + q * 256 + (b * 128 + u * 32768)) % 128 ≡ r) × ((r + q * 256 + (b * 128 + u * 32768)) / 256 % 128 ≡ q)
+      parted r q b u lr lq hb hu = (omega arith, omega arith)
+
+  pub avail-others : (w : Bool) → others (others f + cond w AVAIL USED) ≡ others f
+  avail-others true = omega (arith, digits 1 0 (omega arith) (omega arith))
+  avail-others false = omega (arith, digits 0 1 (omega arith) (omega arith))
+
+  pub used-others : (w : Bool) → others (others f + cond w (AVAIL + USED) 0) ≡ others f
+  used-others true = omega (arith, digits 1 1 (omega arith) (omega arith))
+  used-others false = omega (arith, digits 0 0 (omega arith) (omega arith))
+
+  -- the two bits of the round: AVAIL equals w and USED differs from it; both equal w
+  pub avail-bits : (w : Bool) → (has (others f + cond w AVAIL USED) AVAIL ≡ w) × (has (others f + cond w AVAIL USED) USED ≡ not w)
+  avail-bits true =
+      (eq-eqb ((others f + AVAIL) / AVAIL % 2) 1 (omega arith), ne-eqb ((others f + AVAIL) / USED % 2) 1 (λ e. omega arith))
+  avail-bits false =
+      (ne-eqb ((others f + USED) / AVAIL % 2) 1 (λ e. omega arith), eq-eqb ((others f + USED) / USED % 2) 1 (omega arith))
+
+  pub used-bits : (w : Bool) → (has (others f + cond w (AVAIL + USED) 0) AVAIL ≡ w) × (has (others f + cond w (AVAIL + USED) 0) USED ≡ w)
+  used-bits true = (
+    eq-eqb ((others f + (AVAIL + USED)) / AVAIL % 2) 1 (omega arith),
+    eq-eqb ((others f + (AVAIL + USED)) / USED % 2) 1 (omega arith),
+  )
+  used-bits false =
+      (ne-eqb ((others f + 0) / AVAIL % 2) 1 (λ e. omega arith), ne-eqb ((others f + 0) / USED % 2) 1 (λ e. omega arith))
+
+-- words whose other bits agree have the same NEXT, WRITE and INDIRECT
+pub record SameFlags (f g : ℕ) : Type 0 where
+  pub next : has f NEXT ≡ has g NEXT
+  pub write : has f WRITE ≡ has g WRITE
+  pub indirect : has f INDIRECT ≡ has g INDIRECT
+
+pub same-flags : (f g : ℕ) → others f ≡ others g → SameFlags f g
+same-flags f g e =
+    let l : f % 128 ≡ g % 128 = sym (low f) ∙ ap (λ (x : ℕ). x % 128) e ∙ low g in
+    record {
+      next = ap (λ (x : ℕ). eqb x 1) (bit0 f g l);
+      write = ap (λ (x : ℕ). eqb x 1) (bit1 f g l);
+      indirect = ap (λ (x : ℕ). eqb x 1) (bit2 f g l);
+    }
+  where
+    low : (x : ℕ) → others x % 128 ≡ x % 128
+    low x = ap (λ (y : ℕ). y % 128) (omega arith) ∙ digits x 0 0 (omega arith) (omega arith) .0
+
+    bit0 : (x y : ℕ) → x % 128 ≡ y % 128 → x / NEXT % 2 ≡ y / NEXT % 2
+    bit0 x y h = omega arith
+
+    bit1 : (x y : ℕ) → x % 128 ≡ y % 128 → x / WRITE % 2 ≡ y / WRITE % 2
+    bit1 x y h = omega arith
+
+    bit2 : (x y : ℕ) → x % 128 ≡ y % 128 → x / INDIRECT % 2 ≡ y / INDIRECT % 2
+    bit2 x y h = omega arith
+
+-- a marked descriptor passes its own test, in its own round and in no other
+pub avail-marked : (d : Descriptor) (w v : Bool) → isAvail (markAvail d w .flags) v ≡ Bool·beq w v
+unfolding isAvail markAvail
+avail-marked d w v = simp (avail-bits (d .flags) w .0, avail-bits (d .flags) w .1) (alone w v)
+  where
+    alone : (w v : Bool) → Bool·beq w v && not (Bool·beq (not w) v) ≡ Bool·beq w v
+    alone true true = refl
+    alone true false = refl
+    alone false true = refl
+    alone false false = refl
+
+pub used-marked : (d : Descriptor) (w v : Bool) → isUsed (markUsed d w .flags) v ≡ Bool·beq w v
+unfolding isUsed markUsed
+used-marked d w v = simp (used-bits (d .flags) w .0, used-bits (d .flags) w .1) (alone w v)
+  where
+    alone : (w v : Bool) → Bool·beq w v && Bool·beq w v ≡ Bool·beq w v
+    alone true true = refl
+    alone true false = refl
+    alone false true = refl
+    alone false false = refl
+
+-- what is available is used in no round, and what is used is available in none
+pub avail-not-used : (d : Descriptor) (w v : Bool) → isUsed (markAvail d w .flags) v ≡ false
+unfolding isUsed markAvail
+avail-not-used d w v = simp (avail-bits (d .flags) w .0, avail-bits (d .flags) w .1) (never w v)
+  where
+    never : (w v : Bool) → Bool·beq w v && Bool·beq (not w) v ≡ false
+    never true true = refl
+    never true false = refl
+    never false true = refl
+    never false false = refl
+
+pub used-not-avail : (d : Descriptor) (w v : Bool) → isAvail (markUsed d w .flags) v ≡ false
+unfolding isAvail markUsed
+used-not-avail d w v = simp (used-bits (d .flags) w .0, used-bits (d .flags) w .1) (never w v)
+  where
+    never : (w v : Bool) → Bool·beq w v && not (Bool·beq w v) ≡ false
+    never true true = refl
+    never true false = refl
+    never false true = refl
+    never false false = refl
