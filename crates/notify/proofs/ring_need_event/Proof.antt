@@ -1,0 +1,23 @@
+-- `notify::ring_need_event` meets its contract: the comparison is the definition's.
+-- Assumes nothing.
+use borrow.Author.Needs.{needs}
+use Rattle.notify.specs.Notify.{needEvent}
+use Rattle.notify.proofs.ring_need_event.Statement.{statement}
+use Rattle.notify.proofs.ring_need_event.Tie as tie
+
+minus-requires : tie.Need-minus-requires
+minus-requires c κs = search needs
+
+minus-requires-2 : tie.Need-minus-requires-2
+minus-requires-2 c κs = search needs
+
+minus-requires-3 : tie.Need-minus-requires-3
+minus-requires-3 c κs = search needs
+
+returns : tie.Need-returns
+unfolding needEvent
+returns c = cc
+
+pub ring-need-event-spec : {M : Type 1} → statement M
+ring-need-event-spec =
+    tie.close (tie.spec minus-requires minus-requires-2 minus-requires-3 returns)
