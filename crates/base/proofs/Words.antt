@@ -39,12 +39,23 @@ word-bytes (suc k) n rest h =
     ∙ omega arith
 
 -- each number of a list is a byte
-pub Bytes : List ℕ → Type 0
+abbrev pub Bytes : List ℕ → Type 0
 Bytes bs = (i : ℕ) → getD bs i 0 < 256
+
+pub bytes-are : (k n : ℕ) → Bytes (bytesOf k n)
+unfolding bytesOf
+bytes-are zero n i = omega arith
+bytes-are (suc k) n zero = omega arith
+bytes-are (suc k) n (suc i) = bytes-are k (n / 256) i
+
+pub bytes-append : (a b : List ℕ) → Bytes a → Bytes b → Bytes (a ++ b)
+bytes-append [] b ha hb i = hb i
+bytes-append (x ∷ xs) b ha hb zero = ha zero
+bytes-append (x ∷ xs) b ha hb (suc i) = bytes-append xs b (λ j. ha (suc j)) hb i
 
 -- the bytes of the word of k bytes are those bytes
 pub bytes-word : (k : ℕ) (bs : List ℕ) (i : ℕ) → Bytes bs → i + k ≤ length bs → bytesOf k (wordAt bs i k) ≡ take k (drop i bs)
-unfolding bytesOf wordAt Bytes
+unfolding bytesOf wordAt
 bytes-word zero bs i b h = refl
 bytes-word (suc k) bs i b h =
     let x = getD bs i 0 in
@@ -53,3 +64,9 @@ bytes-word (suc k) bs i b h =
     (omega (arith, b i))
     (ap (bytesOf k) (omega (arith, b i)) ∙ bytes-word k bs (suc i) b (omega arith))
     ∙ sym (ap (take (suc k)) (drop-cons bs i 0 (omega arith)))
+
+-- a word of k bytes is in its range
+pub word-below : (bs : List ℕ) (i k : ℕ) → Bytes bs → wordAt bs i k < 256 ^ k
+unfolding wordAt
+word-below bs i zero b = omega arith
+word-below bs i (suc k) b = rw (pow-suc 256 k) (omega (arith, b i, word-below bs (suc i) k b))

@@ -59,6 +59,13 @@ module _ (f : ℕ) where
   used-bits false =
       (ne-eqb ((others f + 0) / AVAIL % 2) 1 (λ e. omega arith), ne-eqb ((others f + 0) / USED % 2) 1 (λ e. omega arith))
 
+-- the two runs of other bits
+pub others-low : (f : ℕ) → others f % 128 ≡ f % 128
+others-low f = ap (λ (x : ℕ). x % 128) (omega arith) ∙ digits f 0 0 (omega arith) (omega arith) .0
+
+pub others-high : (f : ℕ) → others f / 256 % 128 ≡ f / 256 % 128
+others-high f = ap (λ (x : ℕ). x / 256 % 128) (omega arith) ∙ digits f 0 0 (omega arith) (omega arith) .1
+
 -- words whose other bits agree have the same NEXT, WRITE and INDIRECT
 pub record SameFlags (f g : ℕ) : Type 0 where
   pub next : has f NEXT ≡ has g NEXT
@@ -67,16 +74,13 @@ pub record SameFlags (f g : ℕ) : Type 0 where
 
 pub same-flags : (f g : ℕ) → others f ≡ others g → SameFlags f g
 same-flags f g e =
-    let l : f % 128 ≡ g % 128 = sym (low f) ∙ ap (λ (x : ℕ). x % 128) e ∙ low g in
+    let l : f % 128 ≡ g % 128 = sym (others-low f) ∙ ap (λ (x : ℕ). x % 128) e ∙ others-low g in
     record {
       next = ap (λ (x : ℕ). eqb x 1) (bit0 f g l);
       write = ap (λ (x : ℕ). eqb x 1) (bit1 f g l);
       indirect = ap (λ (x : ℕ). eqb x 1) (bit2 f g l);
     }
   where
-    low : (x : ℕ) → others x % 128 ≡ x % 128
-    low x = ap (λ (y : ℕ). y % 128) (omega arith) ∙ digits x 0 0 (omega arith) (omega arith) .0
-
     bit0 : (x y : ℕ) → x % 128 ≡ y % 128 → x / NEXT % 2 ≡ y / NEXT % 2
     bit0 x y h = omega arith
 

@@ -7,7 +7,7 @@ use native.Mathlib.Omega.{arith}
 use lib.ListN.{length, take, drop, length-append}
 use lib.Seq.{drop-drop, take-all, take-add}
 use Rattle.base.specs.Bytes.{bytesOf, wordAt}
-use Rattle.base.proofs.Words.{Bytes, word-bytes, word-after, bytes-word, length-bytes}
+use Rattle.base.proofs.Words.{Bytes, bytes-are, bytes-append, word-bytes, word-after, bytes-word, length-bytes}
 use Rattle.desc.specs.declared.Descriptor.{Descriptor}
 use Rattle.desc.specs.Desc.{descriptor, encodeOf, decodeOf}
 
@@ -21,6 +21,13 @@ pub record Ranged (d : Descriptor) : Type 0 where
 pub encode-length : (d : Descriptor) → length (encodeOf d) ≡ 16
 unfolding encodeOf
 encode-length d = simp (length-append, length-bytes)
+
+pub encode-bytes : (d : Descriptor) → Bytes (encodeOf d)
+unfolding encodeOf
+encode-bytes d =
+    bytes-append (bytesOf 8 (d .addr)) _ (bytes-are 8 (d .addr))
+    (bytes-append (bytesOf 4 (d .len)) _ (bytes-are 4 (d .len))
+    (bytes-append (bytesOf 2 (d .id)) (bytesOf 2 (d .flags)) (bytes-are 2 (d .id)) (bytes-are 2 (d .flags))))
 
 pub decode-encode : (d : Descriptor) → Ranged d → decodeOf (encodeOf d) ≡ d
 unfolding decodeOf encodeOf

@@ -7,7 +7,7 @@ use native.Mathlib.Omega.{arith}
 use lib.ListN.{length, take, drop, length-append, take-append-drop}
 use lib.Seq.{take-all, take-add}
 use Rattle.base.specs.Bytes.{bytesOf, wordAt}
-use Rattle.base.proofs.Words.{Bytes, word-bytes, word-after, bytes-word, length-bytes}
+use Rattle.base.proofs.Words.{Bytes, bytes-are, bytes-append, word-bytes, word-after, bytes-word, length-bytes}
 use Rattle.event.specs.declared.EventSuppression.{EventSuppression}
 use Rattle.event.specs.Event.{event, encodeOf, decodeOf}
 
@@ -19,6 +19,11 @@ pub record Ranged (e : EventSuppression) : Type 0 where
 pub encode-length : (e : EventSuppression) → length (encodeOf e) ≡ 4
 unfolding encodeOf
 encode-length e = simp (length-append, length-bytes)
+
+pub encode-bytes : (e : EventSuppression) → Bytes (encodeOf e)
+unfolding encodeOf
+encode-bytes e =
+    bytes-append (bytesOf 2 (e .«off_wrap»)) (bytesOf 2 (e .flags)) (bytes-are 2 (e .«off_wrap»)) (bytes-are 2 (e .flags))
 
 pub decode-encode : (e : EventSuppression) → Ranged e → decodeOf (encodeOf e) ≡ e
 unfolding decodeOf encodeOf

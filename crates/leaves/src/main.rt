@@ -1,0 +1,52 @@
+// The leaves on the cases of document 01 that are run, and on the edges of every width. Each row has a call's numbers and,
+// last, what it should give: that number is the paper's, worked out by hand, and not taken from a run.
+mod areas;
+mod chains;
+mod cursors;
+mod events;
+mod marks;
+mod notifies;
+mod slots;
+mod tell;
+
+fn main() {
+    numbers();
+    cursors::steps();
+    cursors::moves();
+    cursors::refusals();
+    marks::tests();
+    marks::others();
+    slots::encodings();
+    slots::places();
+    slots::tables();
+    events::words();
+    events::places();
+    areas::sizes();
+    areas::edges();
+    chains::checks();
+    chains::parts();
+    notifies::flags();
+    notifies::refusals();
+}
+
+// A number of the table, given its name and asked for its number again.
+fn numbered(n: u8, want: u64) {
+    let e = base::RingError::numbered(n);
+    tell::case(b"numbered", e.number() as u64, want);
+}
+
+// The nine refusals; a number that the table has not is taken for 9.
+fn numbers() {
+    numbered(1, 1);
+    numbered(2, 2);
+    numbered(3, 3);
+    numbered(4, 4);
+    numbered(5, 5);
+    numbered(6, 6);
+    numbered(7, 7);
+    numbered(8, 8);
+    numbered(9, 9);
+    numbered(0, 9);
+    numbered(10, 9);
+    numbered(255, 9);
+}

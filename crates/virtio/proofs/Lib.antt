@@ -1,0 +1,4 @@
+pub mod Bytes
+pub mod Descriptor
+pub mod Event
+pub mod Rounds
