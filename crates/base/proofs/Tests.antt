@@ -18,6 +18,18 @@ by-lt a b f g = split (ltb a b) (λ e. f (ltb-true a b e)) (λ e. g (ltb-false a
 pub by-eq : {P : Type 0} (a b : ℕ) → (a ≡ b → P) → ((a ≡ b → ⊥) → P) → P
 by-eq a b f g = split (eqb a b) (λ e. f (eqb-true a b e)) (λ e. g (eqb-false a b e))
 
+-- a number that is not 0
+pub positive : {m : ℕ} → (m ≡ 0 → ⊥) → 0 < m
+positive h = omega arith
+
+-- what holds of each two Booleans
+pub each-way :
+    (P : Bool → Bool → Type 0) → P true true → P true false → P false true → P false false → (a b : Bool) → P a b
+each-way P tt tf ft ff true true = tt
+each-way P tt tf ft ff true false = tf
+each-way P tt tf ft ff false true = ft
+each-way P tt tf ft ff false false = ff
+
 -- two tests of the same fact
 pub same-leb : (a b c d : ℕ) → (a ≤ b → c ≤ d) → (b < a → d < c) → leb a b ≡ leb c d
 same-leb a b c d f g =

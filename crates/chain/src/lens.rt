@@ -1,4 +1,7 @@
 // The two parts of a chain's lengths.
+// SPDX-License-Identifier: Apache-2.0
+// Copyright 2026 The Hyperlight Authors.
+// Translated from src/virtq/ring.rs of hyperlight-common 0.18.0 (BufferChain) and changed: of one lent slice.
 ghost use mathlib.Core.Path.{_≡_};
 ghost use denote.Ref.{ptr};
 ghost use Rattle.base.specs.Part.{slice};

@@ -1,8 +1,5 @@
 // A chain of buffers: lent addresses, lent lengths, and how many of its elements the device reads. Readables come
-// first by form.
-// SPDX-License-Identifier: Apache-2.0
-// Copyright 2026 The Hyperlight Authors.
-// Translated from src/virtq/ring.rs of hyperlight-common 0.18.0 (BufferChain) and changed: two lent slices and a count.
+// first by form. It stands for the BufferChain of src/virtq/ring.rs of hyperlight-common 0.18.0.
 pub mod addrs;
 pub mod lens;
 

@@ -7,7 +7,7 @@ use native.Mathlib.Omega.{arith}
 use lib.Dec.{ltb, leb, eqb}
 use borrow.Author.Tests.{ne-eqb, le-ltb, lt-leb, eqb-false, ltb-false, leb-false}
 use Rattle.base.specs.Answer.{done, refused}
-use Rattle.base.proofs.Tests.{neither}
+use Rattle.base.proofs.Tests.{neither, positive}
 use Rattle.cursor.specs.declared.RingCursor.{RingCursor}
 use Rattle.cursor.specs.Cursor.{steps, badMove, valuesOf, Outcome, outcome, advanceOf}
 
@@ -25,14 +25,11 @@ ready size n c e =
     let b = neither (ltb 32768 size) _ (a .1) in
     let d = neither (leb size (c .head)) _ (b .1) in
     record {
-      low = positive size (eqb-false size 0 (a .0));
+      low = positive (eqb-false size 0 (a .0));
       high = ltb-false 32768 size (b .0);
       head = leb-false size (c .head) (d .0);
       move = ltb-false size n (d .1);
     }
-  where
-    positive : (m : ℕ) → (m ≡ 0 → ⊥) → 0 < m
-    positive m h = omega arith
 
 pub ready-not-bad : (size n : ℕ) (c : RingCursor) → Ready size n c → badMove size n c ≡ false
 unfolding badMove

@@ -11,7 +11,7 @@ use Rattle.base.proofs.Determine.{by-equation, by-answer}
 use Rattle.base.proofs.Refusals.{seen, seen-same}
 use Rattle.desc.specs.declared.DescAddr.{DescAddr}
 use Rattle.desc.specs.declared.DescAddr.the-variants.{At, Nowhere}
-use Rattle.desc.specs.Table.{placeOf}
+use Rattle.desc.specs.Table.{answerOf}
 use Rattle.desc.proofs.Descriptor.new.Reads as new
 use Rattle.desc.proofs.Descriptor.flags.Reads as flags
 use Rattle.desc.proofs.Descriptor.is_avail.Reads as desc-is-avail
@@ -39,7 +39,7 @@ use Rattle.desc.proofs.DescTable.default_len.Reads as default-len
 value : ℕ → Answer → ℕ
 value i a = getD (a .values) i 0
 
-place-same : (x y : DescAddr) → placeOf x ≡ placeOf y → x ≡ y
+place-same : (x y : DescAddr) → answerOf x ≡ answerOf y → x ≡ y
 unfolding value
 place-same (At p) (At q) h = ap At (ap (value 1) h)
 place-same (At p) Nowhere h = absurd (omega (arith, ap (value 0) h))
@@ -95,7 +95,7 @@ pub from-raw-parts-fixed : Determined from-raw-parts.Post (λ r s. r)
 from-raw-parts-fixed = by-equation _ _ _ (λ κ a r s p. p)
 
 pub desc-addr-fixed : Determined desc-addr.Post (λ r s. r)
-desc-addr-fixed = by-answer _ _ placeOf place-same _ (λ κ a r s p. p)
+desc-addr-fixed = by-answer _ _ answerOf place-same _ (λ κ a r s p. p)
 
 pub clear-fixed : Determined clear.Post (λ r s. both r (now (s .1 .0)))
 clear-fixed = by-answer _ _ seen seen-same _ (λ κ a r s p. p)

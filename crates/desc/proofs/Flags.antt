@@ -6,6 +6,7 @@ use mathlib.Core.Bool.{Bool, true, false, not, cond, _&&_, Bool·beq}
 use native.Mathlib.Omega.{arith}
 use lib.Dec.{eqb}
 use borrow.Author.Tests.{eq-eqb, ne-eqb}
+use Rattle.base.proofs.Tests.{each-way}
 use Rattle.desc.specs.declared.Descriptor.{Descriptor}
 use Rattle.desc.specs.Flags.{NEXT, WRITE, INDIRECT, AVAIL, USED, others, has, isAvail, isUsed}
 use Rattle.desc.specs.Desc.{markAvail, markUsed}
@@ -93,41 +94,21 @@ same-flags f g e =
 -- a marked descriptor passes its own test, in its own round and in no other
 pub avail-marked : (d : Descriptor) (w v : Bool) → isAvail (markAvail d w .flags) v ≡ Bool·beq w v
 unfolding isAvail markAvail
-avail-marked d w v = simp (avail-bits (d .flags) w .0, avail-bits (d .flags) w .1) (alone w v)
-  where
-    alone : (w v : Bool) → Bool·beq w v && not (Bool·beq (not w) v) ≡ Bool·beq w v
-    alone true true = refl
-    alone true false = refl
-    alone false true = refl
-    alone false false = refl
+avail-marked d w v = simp (avail-bits (d .flags) w .0, avail-bits (d .flags) w .1)
+    (each-way (λ (a b : Bool). Bool·beq a b && not (Bool·beq (not a) b) ≡ Bool·beq a b) refl refl refl refl w v)
 
 pub used-marked : (d : Descriptor) (w v : Bool) → isUsed (markUsed d w .flags) v ≡ Bool·beq w v
 unfolding isUsed markUsed
-used-marked d w v = simp (used-bits (d .flags) w .0, used-bits (d .flags) w .1) (alone w v)
-  where
-    alone : (w v : Bool) → Bool·beq w v && Bool·beq w v ≡ Bool·beq w v
-    alone true true = refl
-    alone true false = refl
-    alone false true = refl
-    alone false false = refl
+used-marked d w v = simp (used-bits (d .flags) w .0, used-bits (d .flags) w .1)
+    (each-way (λ (a b : Bool). Bool·beq a b && Bool·beq a b ≡ Bool·beq a b) refl refl refl refl w v)
 
 -- what is available is used in no round, and what is used is available in none
 pub avail-not-used : (d : Descriptor) (w v : Bool) → isUsed (markAvail d w .flags) v ≡ false
 unfolding isUsed markAvail
-avail-not-used d w v = simp (avail-bits (d .flags) w .0, avail-bits (d .flags) w .1) (never w v)
-  where
-    never : (w v : Bool) → Bool·beq w v && Bool·beq (not w) v ≡ false
-    never true true = refl
-    never true false = refl
-    never false true = refl
-    never false false = refl
+avail-not-used d w v = simp (avail-bits (d .flags) w .0, avail-bits (d .flags) w .1)
+    (each-way (λ (a b : Bool). Bool·beq a b && Bool·beq (not a) b ≡ false) refl refl refl refl w v)
 
 pub used-not-avail : (d : Descriptor) (w v : Bool) → isAvail (markUsed d w .flags) v ≡ false
 unfolding isAvail markUsed
-used-not-avail d w v = simp (used-bits (d .flags) w .0, used-bits (d .flags) w .1) (never w v)
-  where
-    never : (w v : Bool) → Bool·beq w v && not (Bool·beq w v) ≡ false
-    never true true = refl
-    never true false = refl
-    never false true = refl
-    never false false = refl
+used-not-avail d w v = simp (used-bits (d .flags) w .0, used-bits (d .flags) w .1)
+    (each-way (λ (a b : Bool). Bool·beq a b && not (Bool·beq a b) ≡ false) refl refl refl refl w v)

@@ -12,14 +12,14 @@ abbrev pub table : ℕ → ℕ → DescTable
 table b n = record { «base_addr» = b; len = n }
 
 -- a place as an answer's values: 1 and the place, or 0 0 where there is none
-abbrev pub placeOf : DescAddr → Answer
-placeOf (At p) = done (1 ∷ p ∷ [])
-placeOf Nowhere = done (0 ∷ 0 ∷ [])
+abbrev pub answerOf : DescAddr → Answer
+answerOf (At p) = done (1 ∷ p ∷ [])
+answerOf Nowhere = done (0 ∷ 0 ∷ [])
 
 -- slot i is 16 bytes for each slot before it behind the table's start; there is none at or past the table's length, nor
 -- where the place would pass the largest number
 unfoldable pub descAddrOf : DescTable → ℕ → Answer
 descAddrOf t i =
     cond (ltb i (t .len) && leb (t .«base_addr» + i * 16) 18446744073709551615)
-    (placeOf (At (t .«base_addr» + i * 16)))
-    (placeOf Nowhere)
+    (answerOf (At (t .«base_addr» + i * 16)))
+    (answerOf Nowhere)

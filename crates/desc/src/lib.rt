@@ -10,7 +10,8 @@ ghost use Rattle.base.specs.Answer.{outcome, answerOf};
 ghost use Rattle.base.specs.Bytes.{putOf, getOf};
 ghost use Rattle.desc.specs.Flags.{NEXT, WRITE, INDIRECT, has, known, others, isAvail, isUsed};
 ghost use Rattle.desc.specs.Desc.{descriptor, encodeOf, decodeOf, markAvail, markUsed};
-ghost use Rattle.desc.specs.Table.{table, placeOf, descAddrOf};
+ghost use Rattle.desc.specs.Table.{table, descAddrOf};
+ghost use Rattle.desc.specs.Table as places;
 use base::Reply;
 use base::RingError;
 use base::bytes;
@@ -229,7 +230,7 @@ impl DescTable {
     }
 
     pub fn desc_addr(self, idx: u16) -> DescAddr
-        ensures { λ r. ⌜ placeOf r ≡ descAddrOf self idx ⌝ }
+        ensures { λ r. ⌜ places.answerOf r ≡ descAddrOf self idx ⌝ }
     {
         let base = self.base_addr;
         let at = (idx as usize) * 16;

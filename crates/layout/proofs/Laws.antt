@@ -8,7 +8,7 @@ use native.Mathlib.Omega.{arith}
 use lib.Dec.{ltb, leb, eqb}
 use borrow.Author.Tests.{eqb-true, eqb-false, ltb-false, leb-true, not-false}
 use Rattle.base.specs.Answer.{Answer, done, refused}
-use Rattle.base.proofs.Tests.{split, neither}
+use Rattle.base.proofs.Tests.{split, neither, positive}
 use Rattle.layout.specs.declared.Layout.{Layout}
 use Rattle.layout.specs.Layout.{apart, tableBytes, badLayout, outside, valuesOf, openOf}
 
@@ -49,7 +49,7 @@ laid l e =
     let b6 = neither (not (apart (l .table) (tableBytes l) (l .driver) 4)) _ (b5 .1) in
     let b7 = neither (not (apart (l .table) (tableBytes l) (l .device) 4)) _ (b6 .1) in
     record {
-      low = positive (l .size) (eqb-false (l .size) 0 (b1 .0));
+      low = positive (eqb-false (l .size) 0 (b1 .0));
       high = ltb-false 32768 (l .size) (b2 .0);
       table = eqb-true (l .table % 16) 0 (not-false (eqb (l .table % 16) 0) (b3 .0));
       driver = eqb-true (l .driver % 4) 0 (not-false (eqb (l .driver % 4) 0) (b4 .0));
@@ -58,9 +58,6 @@ laid l e =
       table-device = is-apart (l .table) (tableBytes l) (l .device) 4 (not-false _ (b7 .0));
       driver-device = is-apart (l .driver) 4 (l .device) 4 (not-false _ (b7 .1));
     }
-  where
-    positive : (m : ℕ) → (m ≡ 0 → ⊥) → 0 < m
-    positive m h = omega arith
 
 -- the three areas are whole in so many bytes
 pub record Within (l : Layout) (bytes : ℕ) : Type 0 where

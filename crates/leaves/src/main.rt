@@ -1,12 +1,9 @@
-// The leaves on the cases of document 01 that are run, and on the edges of every width. Each row has a call's numbers and,
+// The leaves on plain numbers: the cases of document 01 that are run, and the edges of every width. Each row has a call's numbers and,
 // last, what it should give: that number is the paper's, worked out by hand, and not taken from a run.
 mod areas;
-mod chains;
 mod cursors;
-mod events;
 mod marks;
 mod notifies;
-mod slots;
 mod tell;
 
 fn main() {
@@ -16,15 +13,8 @@ fn main() {
     cursors::refusals();
     marks::tests();
     marks::others();
-    slots::encodings();
-    slots::places();
-    slots::tables();
-    events::words();
-    events::places();
     areas::sizes();
     areas::edges();
-    chains::checks();
-    chains::parts();
     notifies::flags();
     notifies::refusals();
 }

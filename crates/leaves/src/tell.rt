@@ -34,27 +34,7 @@ pub fn bit(b: bool) -> u64
     if b { 1 } else { 0 }
 }
 
-// A byte of a slice; 999 past its end.
-pub fn byte(s: &[u8], i: usize) -> u64
-    ensures { λ r. ⌜ r ≤ 999 ⌝ }
-{
-    if i < s.len() { wide(s[i]) } else { 999 }
-}
-
-fn wide(b: u8) -> u64
-    ensures { λ r. ⌜ r ≤ 255 ⌝ }
-{
-    b as u64
-}
-
 // A refusal as 1,000 for each number, and what is seen beside it.
 pub fn refused(e: base::RingError, seen: u64) -> u64 {
     std::num::wrapping_add_u64(1000 * (e.number() as u64), seen)
-}
-
-pub fn outcome(r: base::Reply, seen: u64) -> u64 {
-    match r {
-        base::Reply::Done => seen,
-        base::Reply::Refused(e) => refused(e, seen),
-    }
 }

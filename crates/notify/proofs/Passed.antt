@@ -38,7 +38,8 @@ by-wrap false false f g = f refl
 by-wrap true false f g = g (λ e. clash e refl)
 by-wrap false true f g = g (λ e. clash refl e)
 
--- ---- the theorem
+-- ---- the theorem. It is about rings, whose size is at most 32,768: at size 65,535, from (0, true) to (65,534, true), an event at
+-- (0, false) is told of though that slot was not passed
 
 -- the event's (offset, wrap) is one of the n slots from old on
 pub record Passed (e : EventSuppression) (size n : ℕ) (old : RingCursor) : Type 0 where

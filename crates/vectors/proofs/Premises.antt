@@ -1,4 +1,4 @@
--- Each theorem of the leaves that has premises, at values that meet them: none of them is empty.
+-- The main theorems of the leaves that have premises, at values that meet them: none of them is empty.
 -- Assumes nothing.
 use Prim.Native.Nat.{ℕ, _+_, _*_, _-_, _≤_, _<_}
 use mathlib.Core.Path.{_≡_, refl}
@@ -17,7 +17,7 @@ use Rattle.cursor.proofs.Laws.{lands, steps-twice, steps-fewer, heads-apart}
 use Rattle.cursor.proofs.Ready.{Ready, ready}
 use Rattle.desc.specs.declared.Descriptor.{Descriptor}
 use Rattle.desc.specs.Flags.{WRITE}
-use Rattle.desc.specs.Desc.{descriptor, encodeOf, decodeOf, markAvail}
+use Rattle.desc.specs.Desc.{descriptor, encodeOf, decodeOf, markAvail, markUsed}
 use Rattle.desc.proofs.Trips as desc
 use Rattle.event.specs.declared.EventSuppression.{EventSuppression}
 use Rattle.event.specs.Event.{DESC, event, offOf, wrapOf}
@@ -30,9 +30,10 @@ use Rattle.chain.specs.Chain.{badChain}
 use Rattle.chain.proofs.Laws.{Good, good}
 use Rattle.notify.specs.Notify.{notifyOf}
 use Rattle.notify.proofs.Passed.{Passed, passed-told, told-passed}
-use Rattle.virtio.specs.Packed.{SameOthers}
+use Rattle.virtio.specs.Packed.{image, pvirtq-event-suppress, SameOthers}
 use Rattle.virtio.proofs.Descriptor as document
-use Rattle.virtio.proofs.Rounds.{mark-available-others}
+use Rattle.virtio.proofs.Event as area-of
+use Rattle.virtio.proofs.Rounds.{mark-available-others, mark-used-others, Known, known-five}
 
 -- ---- words and runs of bytes
 
@@ -102,6 +103,22 @@ area-back = event-trips.decode-encode area area-ranged
 area-bytes-back : events.encodeOf (events.decodeOf (events.encodeOf area)) ≡ events.encodeOf area
 area-bytes-back =
     event-trips.encode-decode (events.encodeOf area) (event-trips.encode-bytes area) (event-trips.encode-length area)
+
+area-document : area-of.fields (events.decodeOf (events.encodeOf area)) ≡ events.encodeOf area
+area-document =
+    area-of.decode-document (events.encodeOf area) (event-trips.encode-bytes area) (event-trips.encode-length area)
+
+area-read : area-of.Read (events.decodeOf (image (pvirtq-event-suppress 3 true 2 9))) 3 true 2 9
+area-read = area-of.read-document 3 true 2 9 (record { fifteen = omega arith; two = omega arith; fourteen = omega arith })
+
+slot-only : decodeOf (document.fields slot) ≡ slot
+slot-only = document.decode-only slot (document.fields slot) ranged refl
+
+slot-used : SameOthers (markUsed slot false .flags) (slot .flags)
+slot-used = mark-used-others slot false (ranged .flags)
+
+five : Known (slot .flags)
+five = known-five (slot .flags) (ranged .flags)
 
 -- ---- geometry and chains
 

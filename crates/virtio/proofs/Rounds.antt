@@ -9,7 +9,7 @@ use native.Mathlib.Nat.{div-eq-of-lt, div-div-eq-div-mul, lt-of-lt-of-le, pow-le
 use lib.Dec.{eqb}
 use lib.Pow.{pow-add}
 use Rattle.desc.specs.declared.Descriptor.{Descriptor}
-use Rattle.desc.specs.Flags.{NEXT, WRITE, INDIRECT, AVAIL, USED, has, others, isAvail, isUsed}
+use Rattle.desc.specs.Flags.{NEXT, WRITE, INDIRECT, AVAIL, USED, has, known, others, isAvail, isUsed}
 use Rattle.desc.specs.Desc.{markAvail, markUsed}
 use Rattle.desc.proofs.Flags.{avail-bits, used-bits, avail-fits, used-fits, avail-others, used-others, others-low, others-high}
 use Rattle.base.proofs.Tests.{by-lt}
@@ -140,3 +140,92 @@ pub mark-used-others : (d : Descriptor) (w : Bool) → d .flags < 65536 → Same
 unfolding markUsed
 mark-used-others d w h =
     same-others (others (d .flags) + cond w (AVAIL + USED) 0) (d .flags) (used-fits (d .flags) w) h (used-others (d .flags) w)
+
+-- ---- reading ignores the flags that are none of the five
+
+pub record Known (f : ℕ) : Type 0 where
+  pub next : bitAt NEXT-BIT (known f) ≡ bitAt NEXT-BIT f
+  pub write : bitAt WRITE-BIT (known f) ≡ bitAt WRITE-BIT f
+  pub indirect : bitAt INDIRECT-BIT (known f) ≡ bitAt INDIRECT-BIT f
+  pub avail : bitAt AVAIL-BIT (known f) ≡ bitAt AVAIL-BIT f
+  pub used : bitAt USED-BIT (known f) ≡ bitAt USED-BIT f
+
+pub known-five : (f : ℕ) → f < 65536 → Known f
+known-five f h =
+    let r = f % 8 in
+    let a = f / AVAIL % 2 in
+    let u = f / USED in
+    let lr : r < 8 = omega arith in
+    let la : a < 2 = omega arith in
+    let lu : u < 2 = omega arith in
+    record {
+      next = ap (λ (n : ℕ). eqb n 1) (bit0 r a u lr la lu ∙ sym (low0 f));
+      write = ap (λ (n : ℕ). eqb n 1) (bit1 r a u lr la lu ∙ sym (low1 f));
+      indirect = ap (λ (n : ℕ). eqb n 1) (bit2 r a u lr la lu ∙ sym (low2 f));
+      avail = ap (λ (n : ℕ). eqb n 1) (bit7 r a u lr la lu);
+      used = ap (λ (n : ℕ). eqb n 1) (bit15 r a u lr la lu ∙ sym (low15 f h));
+    }
+  where
+    bit0 : (r a u : ℕ) → r < 8 → a < 2 → u < 2 → (r + a * 128 + u * 32768) / 2 ^ 0 % 2 ≡ r / 1 % 2
+    bit0 r a u lr la lu = omega arith
+
+    bit1 : (r a u : ℕ) → r < 8 → a < 2 → u < 2 → (r + a * 128 + u * 32768) / 2 ^ 1 % 2 ≡ r / 2 % 2
+    bit1 r a u lr la lu = omega arith
+
+    bit2 : (r a u : ℕ) → r < 8 → a < 2 → u < 2 → (r + a * 128 + u * 32768) / 2 ^ 2 % 2 ≡ r / 4 % 2
+    bit2 r a u lr la lu = omega arith
+
+    bit7 : (r a u : ℕ) → r < 8 → a < 2 → u < 2 → (r + a * 128 + u * 32768) / 2 ^ 7 % 2 ≡ a
+    bit7 r a u lr la lu = omega arith
+
+    bit15 : (r a u : ℕ) → r < 8 → a < 2 → u < 2 → (r + a * 128 + u * 32768) / 2 ^ 15 % 2 ≡ u
+    bit15 r a u lr la lu = omega arith
+
+    low0 : (x : ℕ) → x / 2 ^ 0 % 2 ≡ x % 8 / 1 % 2
+    low0 x = omega arith
+
+    low1 : (x : ℕ) → x / 2 ^ 1 % 2 ≡ x % 8 / 2 % 2
+    low1 x = omega arith
+
+    low2 : (x : ℕ) → x / 2 ^ 2 % 2 ≡ x % 8 / 4 % 2
+    low2 x = omega arith
+
+    low15 : (x : ℕ) → x < 65536 → x / 2 ^ 15 % 2 ≡ x / 32768
+    low15 x h = omega arith
+
+-- a bit that is none of the five
+pub record Other (k : ℕ) : Type 0 where
+  pub next : k ≡ NEXT-BIT → ⊥
+  pub write : k ≡ WRITE-BIT → ⊥
+  pub indirect : k ≡ INDIRECT-BIT → ⊥
+  pub avail : k ≡ AVAIL-BIT → ⊥
+  pub used : k ≡ USED-BIT → ⊥
+
+none-set : (r a u : ℕ) → r < 8 → a < 2 → u < 2 → (k : ℕ) → k < 16 → Other k → (r + a * 128 + u * 32768) / 2 ^ k % 2 ≡ 0
+none-set r a u lr la lu zero l o = absurd (o .next refl)
+none-set r a u lr la lu (suc zero) l o = absurd (o .write refl)
+none-set r a u lr la lu (suc (suc zero)) l o = absurd (o .indirect refl)
+none-set r a u lr la lu (suc (suc (suc zero))) l o = omega arith
+none-set r a u lr la lu (suc (suc (suc (suc zero)))) l o = omega arith
+none-set r a u lr la lu (suc (suc (suc (suc (suc zero))))) l o = omega arith
+none-set r a u lr la lu (suc (suc (suc (suc (suc (suc zero)))))) l o = omega arith
+none-set r a u lr la lu (suc (suc (suc (suc (suc (suc (suc zero))))))) l o = absurd (o .avail refl)
+none-set r a u lr la lu (suc (suc (suc (suc (suc (suc (suc (suc zero)))))))) l o = omega arith
+none-set r a u lr la lu (suc (suc (suc (suc (suc (suc (suc (suc (suc zero))))))))) l o = omega arith
+none-set r a u lr la lu (suc (suc (suc (suc (suc (suc (suc (suc (suc (suc zero)))))))))) l o = omega arith
+none-set r a u lr la lu (suc (suc (suc (suc (suc (suc (suc (suc (suc (suc (suc zero))))))))))) l o = omega arith
+none-set r a u lr la lu (suc (suc (suc (suc (suc (suc (suc (suc (suc (suc (suc (suc zero)))))))))))) l o = omega arith
+none-set r a u lr la lu (suc (suc (suc (suc (suc (suc (suc (suc (suc (suc (suc (suc (suc zero))))))))))))) l o = omega arith
+none-set r a u lr la lu (suc (suc (suc (suc (suc (suc (suc (suc (suc (suc (suc (suc (suc (suc zero)))))))))))))) l o = omega arith
+none-set r a u lr la lu (suc (suc (suc (suc (suc (suc (suc (suc (suc (suc (suc (suc (suc (suc (suc zero))))))))))))))) l o = absurd (o .used refl)
+none-set r a u lr la lu (suc (suc (suc (suc (suc (suc (suc (suc (suc (suc (suc (suc (suc (suc (suc (suc (k))))))))))))))))) l o = absurd (omega arith)
+
+pub known-others : (f k : ℕ) → f < 65536 → Other k → bitAt k (known f) ≡ false
+known-others f k h o =
+    let lu : f / USED < 2 = omega arith in
+    by-lt k 16
+    (λ l. ap (λ (n : ℕ). eqb n 1) (none-set (f % 8) (f / AVAIL % 2) (f / USED) (omega arith) (omega arith) lu k l o))
+    (λ l. past-word (known f) k (small (f % 8) (f / AVAIL % 2) (f / USED) (omega arith) (omega arith) lu) l)
+  where
+    small : (r a u : ℕ) → r < 8 → a < 2 → u < 2 → r + a * 128 + u * 32768 < 65536
+    small r a u lr la lu = omega arith

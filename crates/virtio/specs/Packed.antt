@@ -40,6 +40,22 @@ abbrev pub pvirtq-event-suppress : ℕ → Bool → ℕ → ℕ → List Field
 pvirtq-event-suppress off wrap flags reserved =
     le16 (off + 2 ^ 15 * cond wrap 1 0) ∷ le16 (flags + 2 ^ 2 * reserved) ∷ []
 
+-- 2.7.14, how wide its bit fields are
+pub record EventRanged (off flags reserved : ℕ) : Type 0 where
+  pub fifteen : off < 2 ^ 15
+  pub two : flags < 2 ^ 2
+  pub fourteen : reserved < 2 ^ 14
+
+-- 2.7.10, the flags of an event area: enable, disable, for one descriptor; 3 is reserved
+abbrev pub RING-EVENT-FLAGS-ENABLE : ℕ
+RING-EVENT-FLAGS-ENABLE = 0
+
+abbrev pub RING-EVENT-FLAGS-DISABLE : ℕ
+RING-EVENT-FLAGS-DISABLE = 1
+
+abbrev pub RING-EVENT-FLAGS-DESC : ℕ
+RING-EVENT-FLAGS-DESC = 2
+
 -- bit k of a flags word
 abbrev pub bitAt : ℕ → ℕ → Bool
 bitAt k flags = eqb (flags / 2 ^ k % 2) 1

@@ -51,6 +51,15 @@ fn placed(base: usize, len: usize, idx: u16, want: u64) {
     }
 }
 
+// What a table says of itself.
+fn described(base: usize, len: usize, empty: u64) {
+    let t = DescTable::from_raw_parts(base, len);
+    tell::case(b"len", t.len() as u64, len as u64);
+    tell::case(b"base_addr", t.base_addr() as u64, base as u64);
+    tell::case(b"is_empty", bit(t.is_empty()), empty);
+    tell::case(b"default_len", DescTable::default_len() as u64, 256);
+}
+
 // Sixteen bytes, the lowest first in each field; and back, at the edges of every width.
 pub fn encodings() {
     encoded(0, 1);
@@ -93,6 +102,8 @@ pub fn places() {
 
 // Where a slot is; a table cleared, or refused with nothing changed.
 pub fn tables() {
+    described(16, 8, 0);
+    described(0, 0, 1);
     placed(16, 8, 0, 16);
     placed(16, 8, 7, 128);
     placed(16, 8, 8, 777);
