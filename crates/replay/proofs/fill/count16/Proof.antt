@@ -1,0 +1,53 @@
+-- `replay::fill::count16` is safe and ends. The loop keeps the slice's length; the measure is what is left of the entries.
+-- Assumes nothing.
+use borrow.Author.Needs.{needs}
+use Prim.Native.Nat.{_-_}
+use mathlib.Core.Path.{_≡_}
+use lib.ListN.{length}
+use Rattle.replay.proofs.fill.count16.Statement.{statement}
+use Rattle.replay.proofs.fill.count16.Tie as tie
+
+abbrev Inv-loop : tie.InvT-loop
+Inv-loop s₀ n k₀ s k = length s ≡ length s₀
+
+abbrev μ-loop : tie.MeasureT-loop
+μ-loop s₀ n k₀ s k = n - k
+
+loop-holds : tie.Need-loop-holds Inv-loop μ-loop
+loop-holds c = search needs
+
+cast-put16 : tie.Need-cast-put16 Inv-loop μ-loop
+cast-put16 c = search needs
+
+put16-requires : tie.Need-put16-requires Inv-loop μ-loop
+put16-requires c κs = search needs
+
+add-k : tie.Need-add-k Inv-loop μ-loop
+add-k c = search needs
+
+loop-less : tie.Need-loop-less Inv-loop μ-loop
+loop-less c = search needs
+
+loop-again : tie.Need-loop-again Inv-loop μ-loop
+loop-again c = search needs
+
+same-length : tie.Need-same-length Inv-loop μ-loop
+same-length c = search needs
+
+returns : tie.Need-returns Inv-loop μ-loop
+returns c = search needs
+
+pub count16-spec : {M : Type 1} → statement M
+count16-spec =
+    tie.close
+    (tie.spec
+    Inv-loop
+    μ-loop
+    loop-holds
+    cast-put16
+    put16-requires
+    add-k
+    loop-less
+    loop-again
+    same-length
+    returns)
