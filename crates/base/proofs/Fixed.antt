@@ -8,6 +8,12 @@ use Rattle.base.proofs.RingError.number.Reads as number
 use Rattle.base.proofs.RingError.numbered.Reads as numbered
 use Rattle.base.proofs.pick.pick16.Reads as pick16
 use Rattle.base.proofs.pick.ends_by.Reads as ends-by
+use Rattle.base.proofs.pick.pick8.Reads as pick8
+use Rattle.base.proofs.pick.below.Reads as below
+use Rattle.base.proofs.pick.at16.Reads as at16
+use Rattle.base.proofs.pick.at32.Reads as at32
+use Rattle.base.proofs.pick.at64.Reads as at64
+use Rattle.base.proofs.pick.set16.Reads as set16
 use Rattle.base.proofs.bytes.word16.Reads as word16
 use Rattle.base.proofs.bytes.word32.Reads as word32
 use Rattle.base.proofs.bytes.word64.Reads as word64
@@ -40,3 +46,21 @@ put-fixed = by-answer _ _ seen seen-same _ (λ κ a r s p. p)
 
 pub zero-fixed : Determined zero.Post (λ r s. both r (now (s .0)))
 zero-fixed = by-answer _ _ seen seen-same _ (λ κ a r s p. p)
+
+pub pick8-fixed : Determined pick8.Post (λ r s. r)
+pick8-fixed = by-equation _ _ _ (λ κ a r s p. p)
+
+pub below-fixed : Determined below.Post (λ r s. r)
+below-fixed = by-equation _ _ _ (λ κ a r s p. p)
+
+pub at16-fixed : Determined at16.Post (λ r s. r)
+at16-fixed = by-equation _ _ _ (λ κ a r s p. p)
+
+pub at32-fixed : Determined at32.Post (λ r s. r)
+at32-fixed = by-equation _ _ _ (λ κ a r s p. p)
+
+pub at64-fixed : Determined at64.Post (λ r s. r)
+at64-fixed = by-equation _ _ _ (λ κ a r s p. p)
+
+pub set16-fixed : Determined set16.Post (λ r s. now (s .0))
+set16-fixed = by-equation _ _ _ (λ κ a r s p. p)

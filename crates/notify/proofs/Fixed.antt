@@ -15,7 +15,7 @@ use Rattle.notify.proofs.should_notify.Reads as should-notify
 use Rattle.notify.proofs.decide.Reads as decide
 
 -- a yes or no is told by its value, and no refusal has number 0
-answer-same : (x y : Notified) → answerOf x ≡ answerOf y → x ≡ y
+pub answer-same : (x y : Notified) → answerOf x ≡ answerOf y → x ≡ y
 answer-same (Notify b) (Notify d) h = ap Notify (bit-same b d (ap (λ (a : Answer). getD (a .values) 0 0) h))
 answer-same (Notify b) (Refused e) h = absurd (omega (arith, ap (λ (a : Answer). a .number) h, number-low e))
 answer-same (Refused e) (Notify b) h = absurd (omega (arith, ap (λ (a : Answer). a .number) h, number-low e))

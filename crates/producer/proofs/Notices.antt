@@ -1,0 +1,75 @@
+-- The ways a notification's call ends.
+-- Assumes nothing.
+use Prim.Native.Nat.{ℕ, _+_, _≤_, _<_}
+use mathlib.Core.Path.{_≡_}
+use mathlib.Core.List.{List, [], _∷_}
+use mathlib.Core.Bool.{Bool, true, false, not, cond, _||_}
+use native.Mathlib.Omega.{arith}
+use lib.Dec.{ltb, leb, eqb}
+use lib.ListN.{length, getD}
+use borrow.Author.Tests.{eq-eqb, ne-eqb, eqb-true, eqb-false, ltb-false, leb-false, not-false}
+use Rattle.base.specs.Answer.{done, refused, bit}
+use Rattle.base.proofs.Tests.{neither, positive}
+use Rattle.cursor.specs.declared.RingCursor.{RingCursor}
+use Rattle.desc.specs.declared.Descriptor.{Descriptor}
+use Rattle.desc.specs.Flags.{isUsed}
+use Rattle.layout.specs.Layout.{outside}
+use Rattle.producer.specs.declared.RingProducer.{RingProducer}
+use Rattle.producer.specs.Record.{badRecord, badLent}
+use Rattle.producer.specs.Outcome.{outcome, changed}
+use Rattle.producer.specs.Submit.{topOf}
+use Rattle.producer.proofs.Ready.{Sound, sound, Lent, lent, passed}
+use Rattle.producer.proofs.Submit.{cond-lt}
+use Rattle.event.specs.Event.{DESC}
+use Rattle.ring.specs.Events.{turned, armed, told}
+use Rattle.producer.specs.Notices.{bytesRefusal, sinceRefusal, shadowOf, turnOf, armOf, sinceOf}
+
+pub bytes-below : (p : RingProducer) (bytes : ℕ) → bytesRefusal p bytes < 9
+unfolding bytesRefusal
+bytes-below p bytes =
+    cond-lt (badRecord p) 7 _ (omega arith) (cond-lt (outside (p .layout) bytes) 8 0 (omega arith) (omega arith))
+
+pub since-below : (p : RingProducer) (bytes : ℕ) (old : RingCursor) → sinceRefusal p bytes old < 9
+unfolding sinceRefusal
+since-below p bytes old =
+    cond-lt (badRecord p || leb (p .layout .size) (old .head)) 7 _ (omega arith)
+    (cond-lt (outside (p .layout) bytes) 8 0 (omega arith) (omega arith))
+
+module _ (p : RingProducer) (ring : List ℕ) where
+  abbrev no : ℕ
+  no = bytesRefusal p (length ring)
+
+  pub turn-refused : (flags : ℕ) → (no ≡ 0 → ⊥) → turnOf p ring flags ≡ changed (refused no) p ring
+  unfolding turnOf
+  turn-refused flags h = simp (ne-eqb no 0 h)
+
+  pub turn-kept : (flags : ℕ) → no ≡ 0 → p .shadow ≡ flags → turnOf p ring flags ≡ changed (done []) p ring
+  unfolding turnOf
+  turn-kept flags h s = simp (eq-eqb no 0 h, eq-eqb (p .shadow) flags s)
+
+  pub turn-done :
+      (flags : ℕ) → no ≡ 0 → (p .shadow ≡ flags → ⊥)
+      → turnOf p ring flags ≡ changed (done []) (shadowOf p flags) (turned (p .layout .driver) flags ring)
+  unfolding turnOf
+  turn-done flags h s = simp (eq-eqb no 0 h, ne-eqb (p .shadow) flags s)
+
+  pub arm-refused : (off : ℕ) (wrap : Bool) → (no ≡ 0 → ⊥) → armOf p ring off wrap ≡ changed (refused no) p ring
+  unfolding armOf
+  arm-refused off wrap h = simp (ne-eqb no 0 h)
+
+  pub arm-done :
+      (off : ℕ) (wrap : Bool) → no ≡ 0
+      → armOf p ring off wrap ≡ changed (done []) (shadowOf p DESC) (armed (p .layout .driver) off wrap ring)
+  unfolding armOf
+  arm-done off wrap h = simp (eq-eqb no 0 h)
+
+module _ (p : RingProducer) (ring : List ℕ) (old : RingCursor) where
+  pub since-refused : (sinceRefusal p (length ring) old ≡ 0 → ⊥) → sinceOf p ring old ≡ refused (sinceRefusal p (length ring) old)
+  unfolding sinceOf
+  since-refused h = simp (ne-eqb (sinceRefusal p (length ring) old) 0 h)
+
+  pub since-done :
+      sinceRefusal p (length ring) old ≡ 0
+      → sinceOf p ring old ≡ done (bit (told (p .layout .device) (p .layout .size) old (p .avail) ring) ∷ [])
+  unfolding sinceOf
+  since-done h = simp (eq-eqb (sinceRefusal p (length ring) old) 0 h)

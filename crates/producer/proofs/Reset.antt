@@ -1,0 +1,104 @@
+-- The ways an opening and a reset end.
+-- Assumes nothing.
+use Prim.Native.Nat.{ℕ, _+_, _≤_, _<_}
+use mathlib.Core.Path.{_≡_, ap, _∙_}
+use mathlib.Core.List.{List, [], _∷_}
+use mathlib.Core.Bool.{Bool, true, false, not, cond, _||_}
+use native.Mathlib.Omega.{arith}
+use lib.Dec.{ltb, leb, eqb}
+use lib.ListN.{length, getD}
+use borrow.Author.Tests.{eq-eqb, ne-eqb, eqb-true, eqb-false, ltb-false, leb-false, not-false}
+use Rattle.base.specs.declared.RingError.{RingError}
+use Rattle.base.specs.Refusals.{numberOf}
+use Rattle.base.specs.Answer.{Answer, done, refused, bit}
+use Rattle.base.proofs.Refusals.{number-low}
+use Rattle.base.proofs.Tests.{neither, positive, split}
+use Rattle.cursor.specs.declared.RingCursor.{RingCursor}
+use Rattle.desc.specs.declared.Descriptor.{Descriptor}
+use Rattle.desc.specs.Flags.{isUsed}
+use Rattle.layout.specs.Layout.{layout, badLayout, outside}
+use Rattle.layout.specs.declared.Layout.{Layout}
+use Rattle.layout.specs.Layout as laying
+use Rattle.layout.proofs.Laws.{opens}
+use Rattle.producer.specs.declared.RingProducer.{RingProducer}
+use Rattle.producer.specs.Record.{badRecord, badLent}
+use Rattle.producer.specs.Outcome.{outcome, changed}
+use Rattle.producer.specs.Submit.{topOf}
+use Rattle.producer.proofs.Ready.{Sound, sound, Lent, lent, passed}
+use Rattle.producer.proofs.Submit.{cond-lt}
+use lib.ListN.{replicate}
+use lib.Seq.{sets}
+use Rattle.ring.specs.Tables.{upTo}
+use Rattle.producer.specs.Fresh.{freshOf, recordValues, opened, openOf, zeroedOf, allRefusal, resetOf}
+
+pub all-below : (p : RingProducer) (bytes ids counts : ℕ) → allRefusal p bytes ids counts < 9
+unfolding allRefusal
+all-below p bytes ids counts =
+    cond-lt (badRecord p) 7 _ (omega arith) (cond-lt (badLent p bytes ids counts) 8 0 (omega arith) (omega arith))
+
+module _ (p : RingProducer) (ring ids counts : List ℕ) where
+  abbrev no : ℕ
+  no = allRefusal p (length ring) (length ids) (length counts)
+
+  pub reset-refused : (no ≡ 0 → ⊥) → resetOf p ring ids counts ≡ outcome (refused no) p ring ids counts
+  unfolding resetOf
+  reset-refused h = simp (ne-eqb no 0 h)
+
+  pub reset-done :
+      no ≡ 0
+      → resetOf p ring ids counts
+      ≡ outcome (done []) (freshOf (p .layout)) (zeroedOf (p .layout) ring)
+      (sets ids 0 (upTo (p .layout .size))) (sets counts 0 (replicate (p .layout .size) 0))
+  unfolding resetOf
+  reset-done h = simp (eq-eqb no 0 h)
+
+-- ---- opening: the layout's answer says which way it ends
+
+module _ (l : Layout) (bytes : ℕ) where
+  abbrev bad : Bool
+  bad = badLayout l || outside l bytes
+
+  answered-6 : bad ≡ true → laying.openOf l bytes ≡ refused 6
+  unfolding laying.openOf
+  answered-6 t = simp t
+
+  pub layout-refused : (e : RingError) → refused (numberOf e) ≡ laying.openOf l bytes → bad ≡ true
+  layout-refused e h =
+      split bad (λ t. t) (λ f. absurd (zero-not e (ap (λ (a : Answer). a .number) (h ∙ opens l bytes f))))
+    where
+      zero-not : (d : RingError) → numberOf d ≡ 0 → ⊥
+      zero-not d z = omega (arith, number-low d)
+
+  pub layout-taken : (m : Layout) → done (laying.valuesOf m) ≡ laying.openOf l bytes → (bad ≡ false) × (m ≡ l)
+  layout-taken m h =
+      split bad
+      (λ t. absurd (six (ap (λ (a : Answer). a .number) (h ∙ answered-6 t))))
+      (λ f. (f, same (h ∙ opens l bytes f)))
+    where
+      six : _≡_ {A = ℕ} 0 6 → ⊥
+      six z = omega arith
+
+      same : done (laying.valuesOf m) ≡ done (laying.valuesOf l) → m ≡ l
+      same g = λ i. layout (getD (g i .values) 0 0) (getD (g i .values) 1 0) (getD (g i .values) 2 0) (getD (g i .values) 3 0)
+
+module _ (size table driver device : ℕ) (ring ids counts : List ℕ) where
+  abbrev at : Layout
+  at = layout size table driver device
+
+  pub opening-refused :
+      badLayout at || outside at (length ring) ≡ true → openOf size table driver device ring ids counts ≡ opened (refused 6) ids counts
+  unfolding openOf
+  opening-refused h = simp h
+
+  pub opening-short :
+      badLayout at || outside at (length ring) ≡ false → ltb (length ids) size || ltb (length counts) size ≡ true
+      → openOf size table driver device ring ids counts ≡ opened (refused 8) ids counts
+  unfolding openOf
+  opening-short h t = simp (h, t)
+
+  pub opening-done :
+      badLayout at || outside at (length ring) ≡ false → ltb (length ids) size || ltb (length counts) size ≡ false
+      → openOf size table driver device ring ids counts
+      ≡ opened (done (recordValues (freshOf at))) (sets ids 0 (upTo size)) (sets counts 0 (replicate size 0))
+  unfolding openOf
+  opening-done h t = simp (h, t)

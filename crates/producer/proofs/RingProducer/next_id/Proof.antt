@@ -1,0 +1,46 @@
+-- `producer::RingProducer::next_id` meets its contract: each exit by the ladder.
+-- Assumes nothing.
+use borrow.Author.Needs.{needs}
+use Prim.Native.Nat.{ℕ}
+use mathlib.Core.Path.{_≡_, sym, ap, ap₂, _∙_}
+use mathlib.Core.List.{List, [], _∷_}
+use lib.ListN.{length, getD, set}
+use Rattle.base.specs.Refusals.{numberOf}
+use Rattle.base.specs.Answer.{done, refused, bit}
+use Rattle.producer.proofs.Ready.{named}
+use Rattle.producer.specs.Poll.{nextRefusal}
+use Rattle.producer.proofs.Poll.{next-below, next-refused, next-done}
+use Rattle.producer.proofs.RingProducer.next_id.Statement.{statement}
+use Rattle.producer.proofs.RingProducer.next_id.Tie as tie
+
+next-id-requires : tie.Need-next-id-requires
+next-id-requires c κs = search needs
+
+numbered-requires : tie.Need-numbered-requires
+numbered-requires c κs = search needs
+
+returns : tie.Need-returns
+returns c =
+    let a = c .before .before .before .before .before .args in
+    let n = nextRefusal (a .self) (a .ids .now) (a .counts .now) in
+    let e = c .before .before .next-id .ensures in
+    let z : n ≡ 0 → ⊥ = λ h. c .before .if1 .taken (e ∙ h) in
+    ap refused (named (numberOf (c .numbered .result)) (c .before .before .next-id .result) n (c .numbered .ensures) e z (next-below (a .self) (a .ids .now) (a .counts .now)))
+    ∙ sym (next-refused (a .self) (a .ids .now) (a .counts .now) z)
+
+below-requires : tie.Need-below-requires
+below-requires c κs = search needs
+
+at16-requires : tie.Need-at16-requires
+at16-requires c κs = search needs
+
+returns-2 : tie.Need-returns-2
+returns-2 c =
+    let a = c .before .before .before .before .before .before .args in
+    ap (λ (x : ℕ). done (x ∷ [])) (c .at16 .ensures ∙ ap (λ (i : ℕ). getD (a .ids .now) i 0) (c .before .below .ensures))
+    ∙ sym (next-done (a .self) (a .ids .now) (a .counts .now) (sym (c .before .before .before .next-id .ensures) ∙ c .before .before .if1 .left))
+
+pub next-id-spec : {M : Type 1} → statement M
+next-id-spec =
+    tie.close
+    (tie.spec next-id-requires numbered-requires returns below-requires at16-requires returns-2)

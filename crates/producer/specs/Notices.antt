@@ -1,0 +1,72 @@
+-- Notifications turned on and off, armed and asked (document 01, "Slots, flags and cursors" and Notify).
+use Prim.Native.Nat.{ℕ, _+_, _-_, _*_}
+use mathlib.Core.List.{List, [], _∷_}
+use mathlib.Core.Bool.{Bool, not, cond, _||_}
+use lib.Dec.{ltb, leb, eqb}
+use lib.ListN.{length, getD, set}
+use Rattle.base.specs.Refusals.{numberOf}
+use Rattle.base.specs.Answer.{Answer, done, refused, bit}
+use Rattle.cursor.specs.declared.RingCursor.{RingCursor}
+use Rattle.event.specs.Event.{DESC}
+use Rattle.layout.specs.Layout.{outside}
+use Rattle.ring.specs.Events.{turned, armed, told}
+use Rattle.producer.specs.declared.RingProducer.{RingProducer}
+use Rattle.producer.specs.declared.Turned.{Turned}
+use Rattle.producer.specs.declared.Turned.the-variants.{Done, Refused}
+use Rattle.producer.specs.Record.{badRecord}
+use Rattle.producer.specs.Outcome.{Changed, changed}
+
+-- "7, 8 for all else": the record, then the bytes
+unfoldable pub bytesRefusal : RingProducer → ℕ → ℕ
+bytesRefusal p bytes = cond (badRecord p) 7 (cond (outside (p .layout) bytes) 8 0)
+
+-- 7 also for "a head not below the size, also in an old cursor .. that is handed in"
+unfoldable pub sinceRefusal : RingProducer → ℕ → RingCursor → ℕ
+sinceRefusal p bytes old =
+    cond (badRecord p || leb (p .layout .size) (old .head)) 7 (cond (outside (p .layout) bytes) 8 0)
+
+-- the record with other flags in its shadow
+unfoldable pub shadowOf : RingProducer → ℕ → RingProducer
+shadowOf p flags =
+    record {
+      layout = p .layout;
+      avail = p .avail;
+      used = p .used;
+      free = p .free;
+      height = p .height;
+      shadow = flags;
+    }
+
+-- "Turning notifications on or off writes nothing if the end's shadow already says so, and otherwise keeps the offset word."
+unfoldable pub turnOf : RingProducer → List ℕ → ℕ → Changed
+turnOf p ring flags =
+    let no = bytesRefusal p (length ring) in
+    cond (eqb no 0)
+    (cond (eqb (p .shadow) flags)
+    (changed (done []) p ring)
+    (changed (done []) (shadowOf p flags) (turned (p .layout .driver) flags ring)))
+    (changed (refused no) p ring)
+
+-- "Arming at a slot always writes"
+unfoldable pub armOf : RingProducer → List ℕ → ℕ → Bool → Changed
+armOf p ring off wrap =
+    let no = bytesRefusal p (length ring) in
+    cond (eqb no 0)
+    (changed (done []) (shadowOf p DESC) (armed (p .layout .driver) off wrap ring))
+    (changed (refused no) p ring)
+
+-- what the device's event area asks of the move from old to the avail cursor
+unfoldable pub sinceOf : RingProducer → List ℕ → RingCursor → Answer
+sinceOf p ring old =
+    let no = sinceRefusal p (length ring) old in
+    cond (eqb no 0)
+    (done (bit (told (p .layout .device) (p .layout .size) old (p .avail) ring) ∷ []))
+    (refused no)
+
+abbrev pub turnAnswer : Turned → Answer
+turnAnswer (Done p) = done []
+turnAnswer (Refused e p) = refused (numberOf e)
+
+abbrev pub turnRecord : Turned → RingProducer
+turnRecord (Done p) = p
+turnRecord (Refused e p) = p

@@ -1,0 +1,20 @@
+-- The producer's record and what it is lent (document 01, "When the ring says no", refusals 7 and 8).
+use Prim.Native.Nat.{ℕ}
+use mathlib.Core.Bool.{Bool, _||_}
+use lib.Dec.{ltb, leb}
+use Rattle.layout.specs.Layout.{badLayout, outside}
+use Rattle.producer.specs.declared.RingProducer.{RingProducer}
+
+-- 7: "stored geometry breaks 6 ..; a head not below the size ..; the record's own free, in-flight or stack count above the size"
+unfoldable pub badRecord : RingProducer → Bool
+badRecord p =
+    badLayout (p .layout)
+    || (leb (p .layout .size) (p .avail .head)
+    || (leb (p .layout .size) (p .used .head)
+    || (ltb (p .layout .size) (p .free)
+    || ltb (p .layout .size) (p .height))))
+
+-- 8: "bytes too short for the areas; an ID table .. shorter than the size"
+unfoldable pub badLent : RingProducer → ℕ → ℕ → ℕ → Bool
+badLent p bytes ids counts =
+    outside (p .layout) bytes || (ltb ids (p .layout .size) || ltb counts (p .layout .size))

@@ -1,0 +1,35 @@
+-- A submission that says whether to tell the device (document 01, Notify).
+use Prim.Native.Nat.{ℕ, _+_, _-_, _*_}
+use mathlib.Core.List.{List, [], _∷_}
+use mathlib.Core.Bool.{Bool, not, cond, _||_}
+use lib.Dec.{ltb, leb, eqb}
+use lib.ListN.{length, getD, set}
+use Rattle.base.specs.Refusals.{numberOf}
+use Rattle.base.specs.Answer.{Answer, done, refused, bit}
+use Rattle.cursor.specs.declared.RingCursor.{RingCursor}
+use Rattle.ring.specs.Events.{told}
+use Rattle.producer.specs.declared.RingProducer.{RingProducer}
+use Rattle.producer.specs.declared.SubmittedTold.{SubmittedTold}
+use Rattle.producer.specs.declared.SubmittedTold.the-variants.{Result, Refused}
+use Rattle.producer.specs.Outcome.{Outcome, outcome}
+
+-- success has one value more: what the device's event area, in the bytes that the submission left, asks of the move from the
+-- avail cursor before it to the one behind it
+abbrev pub valued : RingCursor → Outcome → Answer
+valued old o =
+    cond (eqb (o .answer .number) 0)
+    (done (getD (o .answer .values) 0 0
+    ∷ bit (told (o .end .layout .device) (o .end .layout .size) old (o .end .avail) (o .ring))
+    ∷ []))
+    (o .answer)
+
+unfoldable pub tellOf : RingCursor → Outcome → Outcome
+tellOf old o = outcome (valued old o) (o .end) (o .ring) (o .ids) (o .counts)
+
+abbrev pub toldAnswer : SubmittedTold → Answer
+toldAnswer (Result r p) = done (r .id ∷ bit (r .notify) ∷ [])
+toldAnswer (Refused e p) = refused (numberOf e)
+
+abbrev pub toldRecord : SubmittedTold → RingProducer
+toldRecord (Result r p) = p
+toldRecord (Refused e p) = p

@@ -1,0 +1,38 @@
+-- `ring::turn` meets its contract: what was read, its flags set, is written.
+-- Assumes nothing.
+use borrow.Author.Needs.{needs}
+use Prim.Native.Nat.{ℕ}
+use mathlib.Core.Path.{ap, _∙_}
+use Rattle.base.specs.Answer.{Outcome}
+use Rattle.base.specs.Bytes.{putOf}
+use Rattle.event.specs.declared.EventSuppression.{EventSuppression}
+use Rattle.event.specs.Event.{setFlags, encodeOf}
+use Rattle.ring.specs.Events.{turned}
+use Rattle.ring.proofs.turn.Statement.{statement}
+use Rattle.ring.proofs.turn.Tie as tie
+
+read-requires : tie.Need-read-requires
+read-requires c κs = search needs
+
+set-flags-requires : tie.Need-set-flags-requires
+set-flags-requires c κs = search needs
+
+write-requires : tie.Need-write-requires
+write-requires c κs = search needs
+
+same-length : tie.Need-same-length
+same-length c = search needs
+
+returns : tie.Need-returns
+unfolding turned
+returns c =
+    let a = c .before .before .before .before .before .before .before .before .args in
+    ap (λ (o : Outcome). o .bytes)
+    (c .before .before .write .ensures
+    ∙ ap (λ (e : EventSuppression). putOf (a .ring .now) (a .at) (encodeOf e))
+    (c .before .before .before .before .set-flags .ensures
+    ∙ ap (λ (e : EventSuppression). setFlags e (a .flags)) (c .before .before .before .before .before .read .ensures)))
+
+pub turn-spec : {M : Type 1} → statement M
+turn-spec =
+    tie.close (tie.spec read-requires set-flags-requires write-requires same-length returns)

@@ -1,0 +1,4 @@
+pub mod Slots
+pub mod Events
+pub mod Tables
+pub mod Asked
