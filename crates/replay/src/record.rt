@@ -12,7 +12,7 @@ use crate::region;
 
 pub enum Answered {
     Line(Run),
-    // An op that is not there.
+    // A call of the ring's ends: not run here yet, and answered as an unknown record.
     Unknown,
 }
 

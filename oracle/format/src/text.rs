@@ -7,7 +7,8 @@
 //! ```
 //!
 //! A call's numbers stand in the order of its fields. After `=>` may stand the
-//! answer's status and values, without op and hash.
+//! answer's status and values, without op and hash; after a header's `=>` the
+//! opening's status.
 
 use crate::{COUNT_LIMIT, Ending, Header, Record, Trace, Width, shape, shape_named};
 
@@ -16,6 +17,8 @@ pub struct Listing {
     pub traces: Vec<Trace>,
     /// For each trace's records, the answer that the text states.
     pub stated: Vec<Vec<Option<String>>>,
+    /// For each trace, the opening's status, where the text states it.
+    pub openings: Vec<Option<String>>,
 }
 
 pub fn parse(text: &str) -> Result<Listing, String> {
@@ -40,6 +43,7 @@ fn parse_line(line: &str, listing: &mut Listing) -> Result<(), String> {
         let header = parse_header(words)?;
         listing.traces.push(Trace { header, ..Trace::default() });
         listing.stated.push(Vec::new());
+        listing.openings.push(stated);
         return Ok(());
     }
     let record = parse_record(name, words)?;

@@ -90,9 +90,7 @@ fn complete_wrongly(play: &mut Play) {
 pub fn question(play: &mut Play) {
     let op = play.rng.pick(&[6, 7, 8, 9, 36, 37, 38, 39, 105]);
     if op == 105 {
-        let size = play.size();
-        let index = play.rng.near(&[0, size, size / 2, 65_535]);
-        play.push(105, [index]);
+        leaf::desc_addr(play);
     } else {
         play.push(op, []);
     }

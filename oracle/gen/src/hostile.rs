@@ -1,5 +1,7 @@
 //! Bytes changed between calls: what a hostile other side may write.
 
+use format::COUNT_LIMIT;
+
 use crate::calls;
 use crate::play::Play;
 
@@ -8,6 +10,10 @@ const WRITE: u64 = 2;
 const INDIRECT: u64 = 4;
 const AVAIL: u64 = 128;
 const USED: u64 = 32_768;
+/// The longest chain that is written slot by slot.
+const MOST_BY_SLOT: u64 = 40;
+/// A trace that has this many bytes gets no further whole table.
+const WHOLE_RING_BEFORE: usize = 40_000;
 
 pub fn any_move(play: &mut Play) {
     match play.rng.below(12) {
@@ -81,7 +87,12 @@ fn false_head(play: &mut Play) {
 fn false_chain(play: &mut Play) {
     let cursor = play.machine.consumer.avail_cursor();
     let size = play.size();
-    let most = size.min(40);
+    // Slot by slot a long chain takes many bytes, so one over every slot is
+    // written at once, and more seldom.
+    if size > MOST_BY_SLOT && play.written() < WHOLE_RING_BEFORE && play.rng.once_in(3) {
+        return whole_ring(play);
+    }
+    let most = size.min(MOST_BY_SLOT);
     let n = match play.rng.below(3) {
         0 => most,
         _ => play.rng.within(1, most),
@@ -107,6 +118,39 @@ fn false_chain(play: &mut Play) {
         let id = if i == 0 || play.rng.bit() == 0 { head_id } else { play.any_id() };
         put_slot(play, u64::from(cursor.head()) + i, id, flags);
     }
+}
+
+/// A chain with NEXT on every slot, or one that ends in the last slot that the
+/// walk comes to, or one before it. Polled at once.
+fn whole_ring(play: &mut Play) {
+    let cursor = play.machine.consumer.avail_cursor();
+    let size = play.size();
+    let last = match play.rng.below(5) {
+        0 | 1 => size,
+        2 | 3 => size - 1,
+        _ => size - 2,
+    };
+    let writable_from = play.rng.pick(&[0, size / 2, size - 1, size]);
+    let id = play.any_id();
+    let mut table = vec![0; size as usize * 16];
+    for i in 0..size {
+        let mut flags = if i == last { 0 } else { NEXT };
+        if i >= writable_from {
+            flags |= WRITE;
+        }
+        if i == 0 {
+            flags |= available(cursor.wrap());
+        }
+        let at = ((u64::from(cursor.head()) + i) % size * 16) as usize;
+        table[at..at + 8].copy_from_slice(&(i % 10).to_le_bytes());
+        table[at + 12..at + 14].copy_from_slice(&(id as u16).to_le_bytes());
+        table[at + 14..at + 16].copy_from_slice(&(flags as u16).to_le_bytes());
+    }
+    let start = play.slot(0);
+    for (i, part) in table.chunks(COUNT_LIMIT as usize).enumerate() {
+        overwrite(play, start + i as u64 * COUNT_LIMIT, part);
+    }
+    play.push(33, []);
 }
 
 fn false_used(play: &mut Play) {

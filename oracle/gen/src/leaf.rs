@@ -13,6 +13,27 @@ pub fn any_record(play: &mut Play) {
     play.push(op, nums);
 }
 
+/// Bytes anywhere in the region, from none to a few slots.
+pub fn overwrite(play: &mut Play) {
+    let region = u64::from(play.header.region);
+    let at = if play.rng.once_in(6) { region } else { play.rng.below(region) };
+    let k = play.rng.below((region - at).min(40) + 1);
+    let mut nums = vec![at, k];
+    nums.extend((0..k).map(|_| play.rng.draw() & 0xff));
+    play.push(64, nums);
+}
+
+/// A place in the table, or past its last slot.
+pub fn desc_addr(play: &mut Play) {
+    let size = play.size();
+    let index = match play.rng.below(3) {
+        0 => play.rng.below(size),
+        1 => play.rng.half(),
+        _ => play.rng.near(&[0, size, size / 2, 65_535]),
+    };
+    play.push(105, [index]);
+}
+
 fn fields(rng: &mut Rng, op: u8) -> Vec<u64> {
     match op {
         96 => {

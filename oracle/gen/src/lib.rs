@@ -115,8 +115,15 @@ fn repeat(play: &mut Play, about: u64, one: fn(&mut Play)) {
     }
 }
 
+/// The region's bytes and the table's places belong to no other leaf record,
+/// so they are met beside them.
 fn leaf_or_look(play: &mut Play) {
-    if play.rng.once_in(20) { calls::look(play) } else { leaf::any_record(play) }
+    match play.rng.below(20) {
+        0 => calls::look(play),
+        1 => leaf::overwrite(play),
+        2 => leaf::desc_addr(play),
+        _ => leaf::any_record(play),
+    }
 }
 
 fn refused_opening(mut rng: Rng) -> Trace {

@@ -54,6 +54,10 @@ impl Batch {
     ) -> io::Result<Option<Difference>> {
         let ran =
             panel.programs.iter().map(|p| p.run(&self.bytes)).collect::<io::Result<Vec<_>>>()?;
+        if let Some(who) = ran.iter().position(|r| r.outside) {
+            let name = &panel.programs[who].name;
+            return Err(io::Error::other(format!("a trace leaves the domain of {name}")));
+        }
         let mut at = 0;
         for trace in &self.traces {
             let end = at + trace.lines();
@@ -75,11 +79,26 @@ impl Batch {
             tally.add(trace, equal);
             at = end;
         }
-        let longer = ran.iter().position(|r| r.lines.len() != at);
-        Ok(longer.map(|program| Difference {
-            trace: self.traces.last().cloned().unwrap_or_default(),
-            program: program.max(1).min(ran.len() - 1),
-        }))
+        let who = |program: usize| program.max(1).min(ran.len() - 1);
+        if let Some(longer) = ran.iter().position(|r| r.lines.len() != at) {
+            let trace = self.traces.last().cloned().unwrap_or_default();
+            return Ok(Some(Difference { trace, program: who(longer) }));
+        }
+        let Some(failed) = ran.iter().position(|r| r.failed.is_some()) else {
+            return Ok(None);
+        };
+        let trace = self.failing_trace(&panel.programs[failed])?;
+        Ok(Some(Difference { trace, program: who(failed) }))
+    }
+
+    /// The trace on which the program fails alone, else the last.
+    fn failing_trace(&self, program: &Program) -> io::Result<Trace> {
+        for trace in &self.traces {
+            if program.run(&trace.bytes())?.failed.is_some() {
+                return Ok(trace.clone());
+            }
+        }
+        Ok(self.traces.last().cloned().unwrap_or_default())
     }
 }
 

@@ -16,6 +16,13 @@ use judge::tally::Tally;
 const USAGE: &str = "usage: compare [--seed S] [--traces N] [--from N] [--mode M] \
 [--with COMMAND] [--exceptions FILE] [--ops]";
 
+enum Outcome {
+    Equal,
+    Differed,
+    /// No trace was run by two programs, which is no success.
+    Nothing(&'static str),
+}
+
 struct Options {
     seed: u64,
     traces: u64,
@@ -35,8 +42,12 @@ fn main() -> ExitCode {
         }
     };
     match compare(options) {
-        Ok(true) => ExitCode::SUCCESS,
-        Ok(false) => ExitCode::FAILURE,
+        Ok(Outcome::Equal) => ExitCode::SUCCESS,
+        Ok(Outcome::Differed) => ExitCode::FAILURE,
+        Ok(Outcome::Nothing(why)) => {
+            eprintln!("compare: {why}");
+            ExitCode::from(2)
+        }
         Err(e) => {
             eprintln!("compare: {e}");
             ExitCode::from(2)
@@ -75,6 +86,9 @@ fn options() -> Result<Options, String> {
             }
             _ => return Err(format!("no option {arg}")),
         }
+    }
+    if options.from.checked_add(options.traces).is_none() {
+        return Err("--from and --traces together pass the largest number".to_string());
     }
     Ok(options)
 }
@@ -121,8 +135,12 @@ impl Court {
     }
 }
 
-/// Whether nothing differed.
-fn compare(mut options: Options) -> io::Result<bool> {
+fn compare(mut options: Options) -> io::Result<Outcome> {
+    if options.mode == Some(Mode::Forged) && options.with.is_none() {
+        return Ok(Outcome::Nothing(
+            "without --with there is nothing to compare forged traces with",
+        ));
+    }
     let built = Built::here()?;
     let with = options.with.as_ref().map(|line| Program::shell("the given program", line));
     let originals = vec![built.original(&[]), built.checked(&[]), built.reading()];
@@ -134,7 +152,8 @@ fn compare(mut options: Options) -> io::Result<bool> {
         let trace = generator::trace(options.seed, number, mode);
         let court = if mode.is_the_originals() { &mut domain } else { &mut forged };
         if let Some(difference) = court.hear(trace, &mut options.exceptions)? {
-            return report(&court.panel, &difference, &options.exceptions).map(|()| false);
+            return report(&court.panel, &difference, &options.exceptions)
+                .map(|()| Outcome::Differed);
         }
         if told.elapsed() > Duration::from_secs(5) {
             told = Instant::now();
@@ -148,11 +167,16 @@ fn compare(mut options: Options) -> io::Result<bool> {
     }
     for court in [&mut domain, &mut forged] {
         if let Some(difference) = court.close(&mut options.exceptions)? {
-            return report(&court.panel, &difference, &options.exceptions).map(|()| false);
+            return report(&court.panel, &difference, &options.exceptions)
+                .map(|()| Outcome::Differed);
         }
     }
+    let with_forged = if with.is_some() { forged.tally.traces } else { 0 };
+    if domain.tally.traces + with_forged == 0 {
+        return Ok(Outcome::Nothing("nothing was compared"));
+    }
     summarize(&options, &domain, &forged);
-    Ok(true)
+    Ok(Outcome::Equal)
 }
 
 fn summarize(options: &Options, domain: &Court, forged: &Court) {
@@ -193,15 +217,24 @@ fn report(panel: &Panel, difference: &Difference, list: &Exceptions) -> io::Resu
         }
     };
     let bytes = trace.bytes();
-    let (a, b) = (judge.run(&bytes)?.lines, other.run(&bytes)?.lines);
+    let (judged, answered) = (judge.run(&bytes)?, other.run(&bytes)?);
+    let (a, b) = (&judged.lines, &answered.lines);
     println!("{}", text::show_trace(&trace));
-    match first_difference(&a, &b) {
-        None => println!("# equal alone"),
+    match first_difference(a, b) {
+        None => println!("# equal lines"),
         Some(i) => {
-            let none = "(no line)".to_string();
+            // Escaped, so that a stray carriage return is seen.
+            let shown = |lines: &[String]| {
+                lines.get(i).map_or("(no line)".to_string(), |line| line.escape_debug().to_string())
+            };
             println!("# line {} of the answers:", i + 1);
-            println!("#   {}: {}", judge.name, a.get(i).unwrap_or(&none));
-            println!("#   {}: {}", other.name, b.get(i).unwrap_or(&none));
+            println!("#   {}: {}", judge.name, shown(a));
+            println!("#   {}: {}", other.name, shown(b));
+        }
+    }
+    for (program, ran) in [(judge, &judged), (other, &answered)] {
+        if let Some(how) = &ran.failed {
+            println!("#   {} {how}", program.name);
         }
     }
     println!("{} differs from {}: {} records show it", other.name, judge.name, trace.records.len());
@@ -222,6 +255,7 @@ fn differs(
     }
     match compare_lines(&a.lines, &b.lines, list) {
         Verdict::Differ => first_difference(&a.lines, &b.lines),
+        _ if a.failed.is_some() || b.failed.is_some() => Some(trace.records.len()),
         _ => None,
     }
 }

@@ -1,10 +1,12 @@
 //! Runs the small traces of facts/*.txt and compares what is answered with
 //! what the text states after `=>`. With `--write` it states it instead.
 //!
-//! By default the original in both builds and the reading of 01 must answer
-//! as stated. A line in the text says otherwise:
+//! A refused or accepted opening is compared where the text states it after
+//! the header. By default the original in both builds and the reading of 01
+//! must answer as stated. A line in the text says otherwise:
 //!
 //! - `#! beyond`: outside the domain; the original alone answers, unchecked;
+//! - `#! checked too`: there the checked build answers the same;
 //! - `#! checked panics`: there the checked build panics;
 //! - `#! both panic`: both builds panic, nothing is stated;
 //! - `#! reading`: the reading of 01 alone answers.
@@ -43,6 +45,8 @@ fn check(file: &str, write: bool) -> Result<(), String> {
     }
     let programs = if says("#! reading") {
         vec![built.reading()]
+    } else if says("#! beyond") && says("#! checked too") {
+        vec![built.original(&["--beyond"]), built.checked(&["--beyond"])]
     } else if says("#! beyond") {
         vec![built.original(&["--beyond"])]
     } else {
@@ -66,12 +70,24 @@ fn check(file: &str, write: bool) -> Result<(), String> {
     Ok(())
 }
 
-/// The answers to all records in order, without op and hash.
-fn answers(program: &Program, listing: &Listing) -> io::Result<Vec<String>> {
-    let mut answers = Vec::new();
+/// What a program answers, without op and hash.
+#[derive(Default)]
+struct Answers {
+    openings: Vec<String>,
+    /// To all records, in order.
+    records: Vec<String>,
+}
+
+fn answers(program: &Program, listing: &Listing) -> io::Result<Answers> {
+    let mut answers = Answers::default();
     for trace in &listing.traces {
-        let lines = program.run(&trace.bytes())?.lines;
-        answers.extend(lines.iter().skip(1).map(|line| bare(line)));
+        let ran = program.run(&trace.bytes())?;
+        if let Some(how) = ran.failed {
+            return Err(io::Error::other(format!("{} {how}", program.name)));
+        }
+        let mut lines = ran.lines.iter().map(|line| bare(line));
+        answers.openings.extend(lines.next());
+        answers.records.extend(lines);
     }
     Ok(answers)
 }
@@ -84,10 +100,16 @@ fn bare(line: &str) -> String {
 fn as_stated(program: &Program, listing: &Listing) -> Result<(), String> {
     let answers = answers(program, listing).map_err(|e| e.to_string())?;
     let stated: Vec<&Option<String>> = listing.stated.iter().flatten().collect();
-    if answers.len() != stated.len() {
-        return Err(format!("{}: {} of {} records", program.name, answers.len(), stated.len()));
+    let (openings, records) = (&answers.openings, &answers.records);
+    if records.len() != stated.len() || openings.len() != listing.openings.len() {
+        return Err(format!("{}: {} of {} records", program.name, records.len(), stated.len()));
     }
-    for (i, (answer, stated)) in answers.iter().zip(stated).enumerate() {
+    for (i, (answer, stated)) in openings.iter().zip(&listing.openings).enumerate() {
+        if stated.as_ref().is_some_and(|stated| stated != answer) {
+            return Err(format!("{}: opening {} is answered {answer}", program.name, i + 1));
+        }
+    }
+    for (i, (answer, stated)) in records.iter().zip(stated).enumerate() {
         if stated.as_ref() != Some(answer) {
             return Err(format!("{}: record {} is answered {answer}", program.name, i + 1));
         }
@@ -102,15 +124,24 @@ fn panics(program: &Program, listing: &Listing) -> Result<(), String> {
 }
 
 /// The text with each record's answer stated anew.
-fn stated(words: &str, answers: &[String]) -> String {
-    let mut answers = answers.iter();
+fn stated(words: &str, answers: &Answers) -> String {
+    let mut openings = answers.openings.iter();
+    let mut records = answers.records.iter();
     let mut out = String::new();
     for line in words.lines() {
         let call = line.split('#').next().unwrap_or("").split("=>").next().unwrap_or("").trim();
-        if call.is_empty() || call.starts_with("trace") {
+        let opens = call.starts_with("trace");
+        let answer = if call.is_empty() {
+            None
+        } else if opens {
+            openings.next()
+        } else {
+            records.next()
+        };
+        if call.is_empty() || (opens && !line.contains("=>")) {
             out.push_str(line);
         } else {
-            let answer = answers.next().map_or("(none)", String::as_str);
+            let answer = answer.map_or("(none)", String::as_str);
             out.push_str(&format!("{call} => {answer}"));
             if let Some((_, comment)) = line.split_once('#') {
                 out.push_str(&format!("  #{comment}"));

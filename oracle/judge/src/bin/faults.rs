@@ -11,9 +11,9 @@ use std::process::{Command, ExitCode};
 use std::{fs, io};
 
 use judge::batch::first_difference;
-use judge::programs::Program;
+use judge::programs::{Program, lines_of};
 
-const CORPORA: [&str; 3] = ["leaf", "original", "forged"];
+const CORPORA: [&str; 4] = ["leaf", "leaf-01", "original", "forged"];
 
 fn main() -> ExitCode {
     let args: Vec<PathBuf> = std::env::args_os().skip(1).map(PathBuf::from).collect();
@@ -21,10 +21,24 @@ fn main() -> ExitCode {
         eprintln!("usage: faults READING CORPUS WORK EDIT...");
         return ExitCode::from(2);
     };
+    // A corpus that differs from the unedited reading would catch every fault.
+    match caught(reading, corpus, work, None) {
+        Ok(places) if places.is_empty() => {
+            println!("unedited: as stored in {}", CORPORA.join(", "))
+        }
+        Ok(places) => {
+            println!("unedited: differs in {}", places.join(", "));
+            return ExitCode::FAILURE;
+        }
+        Err(why) => {
+            println!("unedited: {why}");
+            return ExitCode::FAILURE;
+        }
+    }
     let mut missed = 0;
     for edit in edits {
         let name = edit.file_stem().unwrap_or_default().to_string_lossy();
-        match caught(reading, corpus, work, edit) {
+        match caught(reading, corpus, work, Some(edit)) {
             Ok(places) if places.is_empty() => {
                 missed += 1;
                 println!("{name}: NOT caught");
@@ -40,18 +54,23 @@ fn main() -> ExitCode {
     if missed == 0 { ExitCode::SUCCESS } else { ExitCode::FAILURE }
 }
 
-/// Where the corpora's answers part from the faulty reading's.
-fn caught(reading: &Path, corpus: &Path, work: &Path, edit: &Path) -> Result<Vec<String>, String> {
-    let program = faulty(reading, work, edit)?;
+/// Where the corpora's answers part from the edited reading's.
+fn caught(
+    reading: &Path,
+    corpus: &Path,
+    work: &Path,
+    edit: Option<&PathBuf>,
+) -> Result<Vec<String>, String> {
+    let program = edited(reading, work, edit)?;
     let mut places = Vec::new();
     for name in CORPORA {
         let trace = read(&corpus.join(format!("{name}.trace")))?;
         let answers = read(&corpus.join(format!("{name}.answers")))?;
-        let stored: Vec<String> =
-            String::from_utf8_lossy(&answers).lines().map(str::to_string).collect();
         let ran = program.run(&trace).map_err(|e| e.to_string())?;
-        if let Some(line) = first_difference(&stored, &ran.lines) {
+        if let Some(line) = first_difference(&lines_of(&answers), &ran.lines) {
             places.push(format!("{name} (line {})", line + 1));
+        } else if let Some(how) = ran.failed {
+            places.push(format!("{name} ({how})"));
         }
     }
     Ok(places)
@@ -61,12 +80,13 @@ fn read(path: &Path) -> Result<Vec<u8>, String> {
     fs::read(path).map_err(|e| format!("{}: {e}", path.display()))
 }
 
-/// Builds the reading with the edit made.
-fn faulty(reading: &Path, work: &Path, edit: &Path) -> Result<Program, String> {
+/// Builds the reading with the edit made, if there is one.
+fn edited(reading: &Path, work: &Path, edit: Option<&PathBuf>) -> Result<Program, String> {
     let copy = work.join("reading");
     copy_crate(reading, &copy).map_err(|e| e.to_string())?;
-    let edit = Edit::parse(&String::from_utf8_lossy(&read(edit)?))?;
-    edit.make(&copy)?;
+    if let Some(edit) = edit {
+        Edit::parse(&String::from_utf8_lossy(&read(edit)?))?.make(&copy)?;
+    }
     let built = Command::new("cargo")
         .args(["build", "--quiet", "--offline", "--release", "--jobs", "1", "--manifest-path"])
         .arg(copy.join("Cargo.toml"))
@@ -78,7 +98,7 @@ fn faulty(reading: &Path, work: &Path, edit: &Path) -> Result<Program, String> {
     if !built.success() {
         return Err("does not build".to_string());
     }
-    Ok(Program::built("faulty reading", work.join("target/release/reading"), &[]))
+    Ok(Program::built("edited reading", work.join("target/release/reading"), &[]))
 }
 
 fn copy_crate(from: &Path, to: &Path) -> io::Result<()> {
