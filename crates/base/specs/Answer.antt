@@ -7,7 +7,7 @@ use Rattle.base.specs.declared.Reply.{Reply}
 use Rattle.base.specs.declared.Reply.the-variants.{Done, Refused}
 use Rattle.base.specs.Refusals.{numberOf}
 
--- number 0 is success, 1 to 9 are the refusals; the values are those that a trace prints after the number
+-- number 0 is success, 1 to 9 are the refusals; the values are those that a caller reads off the answer
 pub record Answer : Type 0 where
   pub number : ℕ
   pub values : List ℕ

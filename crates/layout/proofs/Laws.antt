@@ -76,6 +76,10 @@ within l bytes e =
       device = leb-true (l .device + 4) bytes (not-false _ (b2 .1));
     }
 
+pub refuses : (l : Layout) (bytes : ℕ) → badLayout l || outside l bytes ≡ true → openOf l bytes ≡ refused 6
+unfolding openOf
+refuses l bytes e = simp e
+
 -- a ring that opens has both
 pub opens : (l : Layout) (bytes : ℕ) → badLayout l || outside l bytes ≡ false → openOf l bytes ≡ done (valuesOf l)
 unfolding openOf

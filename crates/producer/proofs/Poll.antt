@@ -3,20 +3,18 @@
 use Prim.Native.Nat.{ℕ, _+_, _≤_, _<_}
 use mathlib.Core.Path.{_≡_}
 use mathlib.Core.List.{List, [], _∷_}
-use mathlib.Core.Bool.{Bool, true, false, not, cond, _||_}
+use mathlib.Core.Bool.{true, not, _||_}
 use native.Mathlib.Omega.{arith}
 use lib.Dec.{ltb, leb, eqb}
 use lib.ListN.{length, getD}
-use borrow.Author.Tests.{eq-eqb, ne-eqb, eqb-true, eqb-false, ltb-false, leb-false, not-false}
-use Rattle.base.specs.Answer.{done, refused, bit}
+use borrow.Author.Tests.{eq-eqb, ne-eqb, eqb-false, ltb-false, leb-false, not-false}
+use Rattle.base.specs.Answer.{done, refused}
 use Rattle.base.proofs.Tests.{neither, positive}
-use Rattle.cursor.specs.declared.RingCursor.{RingCursor}
 use Rattle.desc.specs.declared.Descriptor.{Descriptor}
 use Rattle.desc.specs.Flags.{isUsed}
-use Rattle.layout.specs.Layout.{outside}
 use Rattle.producer.specs.declared.RingProducer.{RingProducer}
 use Rattle.producer.specs.Record.{badRecord, badLent}
-use Rattle.producer.specs.Outcome.{outcome, changed}
+use Rattle.producer.specs.Outcome.{outcome}
 use Rattle.producer.specs.Submit.{topOf}
 use Rattle.producer.proofs.Ready.{Sound, sound, Lent, lent, passed}
 use Rattle.producer.proofs.Submit.{cond-lt}

@@ -1,30 +1,25 @@
 -- The ways an opening and a reset end.
 -- Assumes nothing.
-use Prim.Native.Nat.{ℕ, _+_, _≤_, _<_}
+use Prim.Native.Nat.{ℕ, _<_}
 use mathlib.Core.Path.{_≡_, ap, _∙_}
-use mathlib.Core.List.{List, [], _∷_}
-use mathlib.Core.Bool.{Bool, true, false, not, cond, _||_}
+use mathlib.Core.List.{List, []}
+use mathlib.Core.Bool.{Bool, true, false, _||_}
 use native.Mathlib.Omega.{arith}
-use lib.Dec.{ltb, leb, eqb}
+use lib.Dec.{ltb}
 use lib.ListN.{length, getD}
-use borrow.Author.Tests.{eq-eqb, ne-eqb, eqb-true, eqb-false, ltb-false, leb-false, not-false}
+use borrow.Author.Tests.{eq-eqb, ne-eqb}
 use Rattle.base.specs.declared.RingError.{RingError}
 use Rattle.base.specs.Refusals.{numberOf}
-use Rattle.base.specs.Answer.{Answer, done, refused, bit}
+use Rattle.base.specs.Answer.{Answer, done, refused}
 use Rattle.base.proofs.Refusals.{number-low}
-use Rattle.base.proofs.Tests.{neither, positive, split}
-use Rattle.cursor.specs.declared.RingCursor.{RingCursor}
-use Rattle.desc.specs.declared.Descriptor.{Descriptor}
-use Rattle.desc.specs.Flags.{isUsed}
+use Rattle.base.proofs.Tests.{split}
 use Rattle.layout.specs.Layout.{layout, badLayout, outside}
 use Rattle.layout.specs.declared.Layout.{Layout}
 use Rattle.layout.specs.Layout as laying
-use Rattle.layout.proofs.Laws.{opens}
+use Rattle.layout.proofs.Laws.{opens, refuses}
 use Rattle.producer.specs.declared.RingProducer.{RingProducer}
 use Rattle.producer.specs.Record.{badRecord, badLent}
-use Rattle.producer.specs.Outcome.{outcome, changed}
-use Rattle.producer.specs.Submit.{topOf}
-use Rattle.producer.proofs.Ready.{Sound, sound, Lent, lent, passed}
+use Rattle.producer.specs.Outcome.{outcome}
 use Rattle.producer.proofs.Submit.{cond-lt}
 use lib.ListN.{replicate}
 use lib.Seq.{sets}
@@ -58,10 +53,6 @@ module _ (l : Layout) (bytes : ℕ) where
   abbrev bad : Bool
   bad = badLayout l || outside l bytes
 
-  answered-6 : bad ≡ true → laying.openOf l bytes ≡ refused 6
-  unfolding laying.openOf
-  answered-6 t = simp t
-
   pub layout-refused : (e : RingError) → refused (numberOf e) ≡ laying.openOf l bytes → bad ≡ true
   layout-refused e h =
       split bad (λ t. t) (λ f. absurd (zero-not e (ap (λ (a : Answer). a .number) (h ∙ opens l bytes f))))
@@ -72,7 +63,7 @@ module _ (l : Layout) (bytes : ℕ) where
   pub layout-taken : (m : Layout) → done (laying.valuesOf m) ≡ laying.openOf l bytes → (bad ≡ false) × (m ≡ l)
   layout-taken m h =
       split bad
-      (λ t. absurd (six (ap (λ (a : Answer). a .number) (h ∙ answered-6 t))))
+      (λ t. absurd (six (ap (λ (a : Answer). a .number) (h ∙ refuses l bytes t))))
       (λ f. (f, same (h ∙ opens l bytes f)))
     where
       six : _≡_ {A = ℕ} 0 6 → ⊥

@@ -5,7 +5,7 @@ use mathlib.Core.Path.{_≡_, ap, ap₂}
 use mathlib.Core.List.{List, []}
 use native.Mathlib.Omega.{arith}
 use lib.ListN.{getD}
-use Rattle.base.specs.Answer.{Answer, bit}
+use Rattle.base.specs.Answer.{Answer}
 use Rattle.base.proofs.Refusals.{number-low, number-same, bit-same}
 use Rattle.cursor.specs.Cursor.{at}
 use Rattle.layout.specs.Layout.{layout}

@@ -1,15 +1,15 @@
 -- Opening and reset (document 01, "What each end does").
-use Prim.Native.Nat.{ℕ, _+_, _-_, _*_}
+use Prim.Native.Nat.{ℕ, _*_}
 use mathlib.Core.List.{List, [], _∷_}
-use mathlib.Core.Bool.{Bool, not, cond, _||_}
-use lib.Dec.{ltb, leb, eqb}
-use lib.ListN.{length, getD, set}
+use mathlib.Core.Bool.{cond, _||_}
+use lib.Dec.{ltb, eqb}
+use lib.ListN.{length}
 use Rattle.base.specs.Refusals.{numberOf}
 use Rattle.base.specs.Answer.{Answer, done, refused, bit}
 use lib.ListN.{replicate}
 use lib.Seq.{sets}
 use Rattle.base.specs.Bytes.{putOf}
-use Rattle.cursor.specs.Cursor.{fresh, valuesOf}
+use Rattle.cursor.specs.Cursor.{fresh}
 use Rattle.event.specs.Event.{ENABLE, event, encodeOf}
 use Rattle.layout.specs.declared.Layout.{Layout}
 use Rattle.layout.specs.Layout.{layout, badLayout, outside}

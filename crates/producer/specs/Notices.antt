@@ -1,9 +1,9 @@
 -- Notifications turned on and off, armed and asked (document 01, "Slots, flags and cursors" and Notify).
-use Prim.Native.Nat.{ℕ, _+_, _-_, _*_}
+use Prim.Native.Nat.{ℕ}
 use mathlib.Core.List.{List, [], _∷_}
-use mathlib.Core.Bool.{Bool, not, cond, _||_}
-use lib.Dec.{ltb, leb, eqb}
-use lib.ListN.{length, getD, set}
+use mathlib.Core.Bool.{Bool, cond, _||_}
+use lib.Dec.{leb, eqb}
+use lib.ListN.{length}
 use Rattle.base.specs.Refusals.{numberOf}
 use Rattle.base.specs.Answer.{Answer, done, refused, bit}
 use Rattle.cursor.specs.declared.RingCursor.{RingCursor}

@@ -1,12 +1,11 @@
 -- A completion polled, and the next ID (document 01, "What each end does", Producer).
-use Prim.Native.Nat.{ℕ, _+_, _-_, _*_}
+use Prim.Native.Nat.{ℕ, _+_}
 use mathlib.Core.List.{List, [], _∷_}
-use mathlib.Core.Bool.{Bool, not, cond, _||_}
+use mathlib.Core.Bool.{not, cond, _||_}
 use lib.Dec.{ltb, leb, eqb}
 use lib.ListN.{length, getD, set}
 use Rattle.base.specs.Refusals.{numberOf}
-use Rattle.base.specs.Answer.{Answer, done, refused, bit}
-use Rattle.cursor.specs.declared.RingCursor.{RingCursor}
+use Rattle.base.specs.Answer.{Answer, done, refused}
 use Rattle.cursor.specs.Cursor.{steps}
 use Rattle.desc.specs.declared.Descriptor.{Descriptor}
 use Rattle.desc.specs.Flags.{isUsed}

@@ -6,6 +6,7 @@ use Rattle.layout.specs.Layout.{badLayout, outside}
 use Rattle.producer.specs.declared.RingProducer.{RingProducer}
 
 -- 7: "stored geometry breaks 6 ..; a head not below the size ..; the record's own free, in-flight or stack count above the size"
+-- (in-flight is the size less the free slots)
 unfoldable pub badRecord : RingProducer → Bool
 badRecord p =
     badLayout (p .layout)

@@ -1,9 +1,8 @@
 -- A submission that says whether to tell the device (document 01, Notify).
-use Prim.Native.Nat.{ℕ, _+_, _-_, _*_}
-use mathlib.Core.List.{List, [], _∷_}
-use mathlib.Core.Bool.{Bool, not, cond, _||_}
-use lib.Dec.{ltb, leb, eqb}
-use lib.ListN.{length, getD, set}
+use mathlib.Core.List.{[], _∷_}
+use mathlib.Core.Bool.{cond}
+use lib.Dec.{eqb}
+use lib.ListN.{getD}
 use Rattle.base.specs.Refusals.{numberOf}
 use Rattle.base.specs.Answer.{Answer, done, refused, bit}
 use Rattle.cursor.specs.declared.RingCursor.{RingCursor}

@@ -42,7 +42,7 @@ pub struct RingProducer {
     // The next slot to make available, and the next to look at for a completion.
     pub avail: RingCursor,
     pub used: RingCursor,
-    // Free slots, the height of the stack of free IDs, and the flags last written to the driver's event area.
+    // Free slots, the height of the stack of free IDs, and the flags that this end takes the driver's event area to have.
     pub free: u16,
     pub height: u16,
     pub shadow: u16,
@@ -80,7 +80,7 @@ pub enum NextId {
     Refused(RingError),
 }
 
-// What a call answers that changes the record alone, or the bytes with it.
+// What a call answers that changes the record, the bytes and, at reset, the tables.
 pub enum Turned {
     Done(RingProducer),
     Refused(RingError, RingProducer),

@@ -2,9 +2,11 @@
 -- Assumes nothing.
 use Prim.Native.Nat.{ℕ}
 use mathlib.Core.Path.{_≡_, ap}
+use mathlib.Core.List.{List}
+use mathlib.Core.Bool.{Bool, true, false}
 use native.Mathlib.Omega.{arith}
 use lib.ListN.{getD}
-use Rattle.base.specs.Answer.{Answer, bit}
+use Rattle.base.specs.Answer.{Answer, done, refused}
 use Rattle.base.proofs.Refusals.{number-low, number-same, bit-same}
 use Rattle.cursor.specs.Cursor.{at}
 use Rattle.desc.specs.Table as tables
@@ -16,7 +18,7 @@ use Rattle.ring.specs.declared.AskedCount.the-variants as count
 use Rattle.ring.specs.declared.AskedBool.the-variants as whether
 use Rattle.ring.specs.declared.AskedCursor.the-variants as place
 use Rattle.ring.specs.declared.AskedTable.the-variants as table
-use Rattle.ring.specs.Asked.{countAnswer, boolAnswer, cursorAnswer, tableAnswer}
+use Rattle.ring.specs.Asked.{askOf, countAnswer, boolAnswer, cursorAnswer, tableAnswer}
 
 -- an answer's number, and its values
 abbrev number : Answer → ℕ
@@ -48,3 +50,12 @@ table-same (table.At t) (table.At u) h = λ i. table.At (tables.table (value 0 (
 table-same (table.At t) (table.Refused e) h = absurd (omega (arith, ap number h, number-low e))
 table-same (table.Refused e) (table.At t) h = absurd (omega (arith, ap number h, number-low e))
 table-same (table.Refused e) (table.Refused f) h = ap table.Refused (number-same e f (ap number h))
+
+-- 7, or the values
+pub ask-bad : (b : Bool) (vs : List ℕ) → b ≡ true → askOf b vs ≡ refused 7
+unfolding askOf
+ask-bad b vs e = simp e
+
+pub ask-good : (b : Bool) (vs : List ℕ) → b ≡ false → askOf b vs ≡ done vs
+unfolding askOf
+ask-good b vs e = simp e

@@ -1,6 +1,6 @@
 -- Slots and event areas: a place that is no number of 64 bits is outside any slice, and what lies apart stays.
 -- Assumes nothing.
-use Prim.Native.Nat.{ℕ, zero, suc, _+_, _*_, _^_, _≤_, _<_}
+use Prim.Native.Nat.{ℕ, zero, suc, _+_, _^_, _<_}
 use mathlib.Core.Path.{_≡_, refl, sym, _∙_, ap, ap₂}
 use mathlib.Core.List.{List}
 use mathlib.Core.Bool.{cond}

@@ -1,7 +1,6 @@
 -- `ring::turn` meets its contract: what was read, its flags set, is written.
 -- Assumes nothing.
 use borrow.Author.Needs.{needs}
-use Prim.Native.Nat.{ℕ}
 use mathlib.Core.Path.{ap, _∙_}
 use Rattle.base.specs.Answer.{Outcome}
 use Rattle.base.specs.Bytes.{putOf}

@@ -2,7 +2,7 @@
 -- Assumes nothing.
 use borrow.Author.Needs.{needs}
 use mathlib.Core.Path.{sym, ap, _∙_}
-use Rattle.ring.specs.Asked.{askOf}
+use Rattle.ring.proofs.Asked.{ask-bad, ask-good}
 use Rattle.ring.specs.Asked.{tableAnswer}
 use Rattle.ring.specs.declared.AskedTable.the-variants.{At}
 use Rattle.producer.proofs.RingProducer.desc_table.Statement.{statement}
@@ -12,8 +12,7 @@ record-requires : tie.Need-record-requires
 record-requires c κs = search needs
 
 returns : tie.Need-returns
-unfolding askOf
-returns c = simp (sym (c .before .«record» .ensures) ∙ c .if1 .taken)
+returns c = sym (ask-bad _ _ (sym (c .before .«record» .ensures) ∙ c .if1 .taken))
 
 cast-slots : tie.Need-cast-slots
 cast-slots c = search needs
@@ -22,8 +21,7 @@ from-raw-parts-requires : tie.Need-from-raw-parts-requires
 from-raw-parts-requires c κs = search needs
 
 returns-2 : tie.Need-returns-2
-unfolding askOf
-returns-2 c = simp (sym (c .before .before .before .«record» .ensures) ∙ c .before .before .if1 .left) (ap tableAnswer (ap At (c .from-raw-parts .ensures)))
+returns-2 c = ap tableAnswer (ap At (c .from-raw-parts .ensures)) ∙ sym (ask-good _ _ (sym (c .before .before .before .«record» .ensures) ∙ c .before .before .if1 .left))
 
 pub desc-table-spec : {M : Type 1} → statement M
 desc-table-spec =

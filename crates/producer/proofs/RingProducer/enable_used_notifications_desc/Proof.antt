@@ -3,10 +3,10 @@
 use borrow.Author.Needs.{needs}
 use Prim.Native.Nat.{ℕ}
 use mathlib.Core.Path.{_≡_, sym, ap, ap₂, _∙_}
-use mathlib.Core.List.{List, [], _∷_}
-use lib.ListN.{length, getD, set}
+use mathlib.Core.List.{List, []}
+use lib.ListN.{length}
 use Rattle.base.specs.Refusals.{numberOf}
-use Rattle.base.specs.Answer.{done, refused, bit}
+use Rattle.base.specs.Answer.{done, refused}
 use Rattle.producer.proofs.Ready.{named}
 use Rattle.producer.specs.declared.RingProducer.{RingProducer}
 use Rattle.producer.specs.Outcome.{changed}

@@ -4,7 +4,6 @@ use borrow.Author.Needs.{needs}
 use Prim.Native.Nat.{_+_}
 use mathlib.Core.Path.{_≡_}
 use mathlib.Core.Path.{ap, _∙_}
-use Rattle.cursor.specs.declared.RingCursor.{RingCursor}
 use Rattle.cursor.specs.Cursor.{steps, Outcome}
 use Rattle.cursor.proofs.Ready.{ready, advance-ready}
 use Rattle.producer.specs.Poll.{freedOf}

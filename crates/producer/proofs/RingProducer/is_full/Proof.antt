@@ -1,8 +1,8 @@
 -- `producer::RingProducer::is_full` meets its contract: 7 or the value.
 -- Assumes nothing.
 use borrow.Author.Needs.{needs}
-use mathlib.Core.Path.{sym, ap, _∙_}
-use Rattle.ring.specs.Asked.{askOf}
+use mathlib.Core.Path.{sym, _∙_}
+use Rattle.ring.proofs.Asked.{ask-bad, ask-good}
 use Rattle.producer.proofs.RingProducer.is_full.Statement.{statement}
 use Rattle.producer.proofs.RingProducer.is_full.Tie as tie
 
@@ -10,12 +10,10 @@ record-requires : tie.Need-record-requires
 record-requires c κs = search needs
 
 returns : tie.Need-returns
-unfolding askOf
-returns c = simp (sym (c .before .«record» .ensures) ∙ c .if1 .taken)
+returns c = sym (ask-bad _ _ (sym (c .before .«record» .ensures) ∙ c .if1 .taken))
 
 returns-2 : tie.Need-returns-2
-unfolding askOf
-returns-2 c = simp (sym (c .before .before .«record» .ensures) ∙ c .before .if1 .left)
+returns-2 c = sym (ask-good _ _ (sym (c .before .before .«record» .ensures) ∙ c .before .if1 .left))
 
 pub is-full-spec : {M : Type 1} → statement M
 is-full-spec = tie.close (tie.spec record-requires returns returns-2)

@@ -1,16 +1,9 @@
 -- `producer::RingProducer::new` meets its contract: by what the layout's test answered, and the tables' lengths.
 -- Assumes nothing.
 use borrow.Author.Needs.{needs}
-use Prim.Native.Nat.{ℕ}
-use mathlib.Core.Path.{_≡_, sym, ap, ap₂, _∙_}
-use mathlib.Core.List.{List, [], _∷_}
-use lib.ListN.{length, getD, set}
-use Rattle.base.specs.Refusals.{numberOf}
-use Rattle.base.specs.Answer.{done, refused, bit}
-use lib.Seq.{sets}
-use lib.ListN.{replicate}
-use Rattle.layout.specs.declared.Layout.{Layout}
-use Rattle.layout.specs.declared.LaidOut.{LaidOut}
+use mathlib.Core.Path.{sym, ap, _∙_}
+use lib.ListN.{length}
+use Rattle.base.specs.Answer.{done}
 use Rattle.layout.specs.Layout.{layout, answerOf}
 use Rattle.producer.specs.Fresh.{freshOf, recordValues, opened}
 use Rattle.producer.proofs.Reset.{layout-refused, layout-taken, opening-refused, opening-short, opening-done}

@@ -2,11 +2,11 @@
 -- Assumes nothing.
 use borrow.Author.Needs.{needs}
 use Prim.Native.Nat.{ℕ}
-use mathlib.Core.Path.{_≡_, sym, ap, ap₂, _∙_}
-use mathlib.Core.List.{List, [], _∷_}
-use lib.ListN.{length, getD, set}
+use mathlib.Core.Path.{_≡_, sym, ap, _∙_}
+use mathlib.Core.List.{[], _∷_}
+use lib.ListN.{getD}
 use Rattle.base.specs.Refusals.{numberOf}
-use Rattle.base.specs.Answer.{done, refused, bit}
+use Rattle.base.specs.Answer.{done, refused}
 use Rattle.producer.proofs.Ready.{named}
 use Rattle.producer.specs.Poll.{nextRefusal}
 use Rattle.producer.proofs.Poll.{next-below, next-refused, next-done}

@@ -1,8 +1,8 @@
 -- `producer::RingProducer::num_inflight` meets its contract: 7 or the value.
 -- Assumes nothing.
 use borrow.Author.Needs.{needs}
-use mathlib.Core.Path.{sym, ap, _∙_}
-use Rattle.ring.specs.Asked.{askOf}
+use mathlib.Core.Path.{sym, _∙_}
+use Rattle.ring.proofs.Asked.{ask-bad, ask-good}
 use native.Mathlib.Omega.{arith}
 use Rattle.producer.proofs.Ready.{sound}
 use Rattle.producer.proofs.RingProducer.num_inflight.Statement.{statement}
@@ -12,15 +12,13 @@ record-requires : tie.Need-record-requires
 record-requires c κs = search needs
 
 returns : tie.Need-returns
-unfolding askOf
-returns c = simp (sym (c .before .«record» .ensures) ∙ c .if1 .taken)
+returns c = sym (ask-bad _ _ (sym (c .before .«record» .ensures) ∙ c .if1 .taken))
 
 sub-t4 : tie.Need-sub-t4
 sub-t4 c = let a = c .before .before .before .args in omega (arith, sound (a .self) (sym (c .before .before .«record» .ensures) ∙ c .before .if1 .left))
 
 returns-2 : tie.Need-returns-2
-unfolding askOf
-returns-2 c = simp (sym (c .before .before .«record» .ensures) ∙ c .before .if1 .left)
+returns-2 c = sym (ask-good _ _ (sym (c .before .before .«record» .ensures) ∙ c .before .if1 .left))
 
 pub num-inflight-spec : {M : Type 1} → statement M
 num-inflight-spec = tie.close (tie.spec record-requires returns sub-t4 returns-2)

@@ -2,17 +2,16 @@
 -- Assumes nothing.
 use borrow.Author.Needs.{needs}
 use Prim.Native.Nat.{ℕ}
-use mathlib.Core.Path.{_≡_, sym, ap, ap₂, _∙_}
-use mathlib.Core.List.{List, [], _∷_}
-use lib.ListN.{length, getD, set}
+use mathlib.Core.Path.{_≡_, sym, ap, _∙_}
+use mathlib.Core.List.{[], _∷_}
+use lib.ListN.{length}
 use Rattle.base.specs.Refusals.{numberOf}
-use Rattle.base.specs.Answer.{done, refused, bit}
+use Rattle.base.specs.Answer.{done, refused}
 use Rattle.producer.proofs.Ready.{named}
 use native.Mathlib.Omega.{arith}
 use Rattle.desc.specs.declared.Descriptor.{Descriptor}
 use Rattle.cursor.proofs.Ready.{ready-not-bad}
 use Rattle.ring.specs.Slots.{slotOf}
-use Rattle.producer.specs.declared.RingProducer.{RingProducer}
 use Rattle.producer.specs.Outcome.{outcome}
 use Rattle.producer.specs.Poll.{pollRefusal, freedOf, polledOf}
 use Rattle.producer.proofs.Poll.{PollReady, poll-ready, poll-below, poll-refused, poll-done}

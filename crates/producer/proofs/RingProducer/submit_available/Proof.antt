@@ -5,14 +5,14 @@ use native.Mathlib.Omega.{arith}
 use Prim.Native.Nat.{ℕ}
 use mathlib.Core.Path.{_≡_, sym, ap, ap₂, _∙_}
 use mathlib.Core.List.{List, [], _∷_}
-use lib.ListN.{length, getD, set}
+use lib.ListN.{length, getD}
 use Rattle.base.specs.Answer.{done, refused}
 use Rattle.base.specs.Refusals.{listed}
 use Rattle.base.proofs.Refusals.{listed-in}
 use Rattle.base.proofs.Tests.{positive}
 use Rattle.producer.specs.declared.RingProducer.{RingProducer}
 use Rattle.producer.specs.Outcome.{outcome}
-use Rattle.producer.specs.Submit.{topOf, submitRefusal, elementOf, putChain, Written, written, takenOf, submittedOf}
+use Rattle.producer.specs.Submit.{topOf, submitRefusal, elementOf, putChain, Written, submittedOf}
 use Rattle.producer.proofs.Ready.{Ready, ready}
 use Rattle.producer.proofs.Submit.{refusal-below, submit-refused, submit-done}
 use Rattle.producer.proofs.RingProducer.submit_available.Statement.{statement}

@@ -1,13 +1,8 @@
 -- `producer::RingProducer::submit_available_with_notify` meets its contract: what the submission left, and what the device's event area asks.
 -- Assumes nothing.
 use borrow.Author.Needs.{needs}
-use Prim.Native.Nat.{ℕ}
-use mathlib.Core.Path.{_≡_, sym, ap, ap₂, _∙_}
-use mathlib.Core.List.{List, [], _∷_}
-use lib.ListN.{length, getD, set}
-use Rattle.base.specs.Refusals.{numberOf}
-use Rattle.base.specs.Answer.{done, refused, bit}
-use Rattle.producer.specs.Outcome.{Outcome, outcome}
+use mathlib.Core.Path.{ap, _∙_}
+use Rattle.producer.specs.Outcome.{outcome}
 use Rattle.producer.specs.Tell.{tellOf}
 use Rattle.producer.proofs.RingProducer.submit_available_with_notify.Statement.{statement}
 use Rattle.producer.proofs.RingProducer.submit_available_with_notify.Tie as tie

@@ -2,11 +2,10 @@
 -- Assumes nothing.
 use borrow.Author.Needs.{needs}
 use native.Mathlib.Omega.{arith}
-use Prim.Native.Nat.{ℕ, _+_, _≤_, _<_}
+use Prim.Native.Nat.{ℕ, _+_, _≤_}
 use mathlib.Core.Bool.{Bool, true, false, cond}
 use Rattle.desc.specs.Flags.{NEXT, WRITE}
 use lib.Dec.{ltb}
-use lib.ListN.{length}
 use Rattle.producer.specs.Submit.{elementOf}
 use Rattle.producer.proofs.write.element.Statement.{statement}
 use Rattle.producer.proofs.write.element.Tie as tie

@@ -2,11 +2,11 @@
 -- Assumes nothing.
 use borrow.Author.Needs.{needs}
 use native.Mathlib.Omega.{arith}
-use Prim.Native.Nat.{ℕ, _+_, _-_, _≤_}
+use Prim.Native.Nat.{ℕ, _-_, _≤_}
 use native.Mathlib.Nat.{zero-add}
 use mathlib.Core.Path.{_≡_, refl, ap, _∙_}
 use mathlib.Core.List.{List}
-use lib.ListN.{length, take, set, replicate, length-replicate, getD-replicate}
+use lib.ListN.{length, take, set}
 use lib.Seq.{sets, take-all}
 use Rattle.ring.specs.Tables.{upTo}
 use Rattle.ring.proofs.Laws.{up-length, up-at, filled-more}

@@ -2,14 +2,12 @@
 -- Assumes nothing.
 use borrow.Author.Needs.{needs}
 use native.Mathlib.Omega.{arith}
-use Prim.Native.Nat.{ℕ, _+_, _-_, _≤_}
-use native.Mathlib.Nat.{zero-add}
+use Prim.Native.Nat.{ℕ, _-_, _≤_}
 use mathlib.Core.Path.{_≡_, refl, ap, _∙_}
 use mathlib.Core.List.{List}
 use lib.ListN.{length, take, set, replicate, length-replicate, getD-replicate}
 use lib.Seq.{sets, take-all}
-use Rattle.ring.specs.Tables.{upTo}
-use Rattle.ring.proofs.Laws.{up-length, up-at, filled-more}
+use Rattle.ring.proofs.Laws.{filled-more}
 use Rattle.ring.proofs.tables.zero.Statement.{statement}
 use Rattle.ring.proofs.tables.zero.Tie as tie
 
