@@ -1,4 +1,7 @@
 // When a call of the producer is refused: tests with no branches, in the definitions' own words.
+// SPDX-License-Identifier: Apache-2.0
+// Copyright 2026 The Hyperlight Authors.
+// Translated from src/virtq/ring.rs of hyperlight-common 0.18.0 (the tests of RingProducer's calls) and changed: over lent slices.
 ghost use mathlib.Core.Path.{_≡_};
 ghost use lib.ListN.{length};
 ghost use Rattle.producer.specs.Record.{badRecord, badLent};

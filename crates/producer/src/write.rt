@@ -1,4 +1,7 @@
 // A chain's descriptors, written at consecutive slots.
+// SPDX-License-Identifier: Apache-2.0
+// Copyright 2026 The Hyperlight Authors.
+// Translated from src/virtq/ring.rs of hyperlight-common 0.18.0 (RingProducer's submit_available) and changed: over lent slices.
 ghost use mathlib.Core.Path.{_≡_};
 ghost use Prim.Native.Nat.{_+_, _-_};
 ghost use lib.Dec.{ltb};

@@ -1,4 +1,7 @@
 // The lent tables of 16-bit numbers, filled at opening and reset.
+// SPDX-License-Identifier: Apache-2.0
+// Copyright 2026 The Hyperlight Authors.
+// Translated from src/virtq/ring.rs of hyperlight-common 0.18.0 (the tables of RingProducer and RingConsumer) and changed: over lent slices.
 ghost use mathlib.Core.Path.{_≡_};
 ghost use lib.ListN.{replicate};
 ghost use lib.Seq.{sets};
