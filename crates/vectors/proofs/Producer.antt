@@ -22,14 +22,14 @@ use Rattle.producer.proofs.Ready.{Ready, ready}
 use Rattle.producer.proofs.Poll.{PollReady, poll-ready}
 
 -- a fresh ring of four slots over 72 bytes
-four : RingProducer
+pub four : RingProducer
 four = freshOf (layout 4 0 64 68)
 
 -- the same with one slot and one ID out, and the completion of ID 3 at the used cursor
-out : RingProducer
+pub out : RingProducer
 out = record { layout = layout 4 0 64 68; avail = at 1 true; used = at 0 true; free = 3; height = 3; shadow = 0 }
 
-found : Descriptor
+pub found : Descriptor
 found = descriptor 0 5 3 32896
 
 pub submits : Ready four 72 (upTo 4) (replicate 4 0) 2 2 1
