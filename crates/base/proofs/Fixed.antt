@@ -14,6 +14,8 @@ use Rattle.base.proofs.pick.at16.Reads as at16
 use Rattle.base.proofs.pick.at32.Reads as at32
 use Rattle.base.proofs.pick.at64.Reads as at64
 use Rattle.base.proofs.pick.set16.Reads as set16
+use Rattle.base.proofs.pick.set32.Reads as set32
+use Rattle.base.proofs.pick.set64.Reads as set64
 use Rattle.base.proofs.bytes.word16.Reads as word16
 use Rattle.base.proofs.bytes.word32.Reads as word32
 use Rattle.base.proofs.bytes.word64.Reads as word64
@@ -64,3 +66,9 @@ at64-fixed = by-equation _ _ _ (λ κ a r s p. p)
 
 pub set16-fixed : Determined set16.Post (λ r s. now (s .0))
 set16-fixed = by-equation _ _ _ (λ κ a r s p. p)
+
+pub set32-fixed : Determined set32.Post (λ r s. now (s .0))
+set32-fixed = by-equation _ _ _ (λ κ a r s p. p)
+
+pub set64-fixed : Determined set64.Post (λ r s. now (s .0))
+set64-fixed = by-equation _ _ _ (λ κ a r s p. p)

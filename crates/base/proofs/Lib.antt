@@ -1,5 +1,6 @@
 pub mod Tests
 pub mod Refusals
+pub mod Ladder
 pub mod Words
 pub mod Runs
 pub mod Determine

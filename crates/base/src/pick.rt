@@ -61,3 +61,19 @@ pub fn set16(s: &mut [u16], i: usize, x: u16)
         s[i] = x;
     }
 }
+
+pub fn set32(s: &mut [u32], i: usize, x: u32)
+    ensures { λ _. ⌜ now (s .exit) ≡ set (now (s .entry)) i x ⌝ }
+{
+    if i < s.len() {
+        s[i] = x;
+    }
+}
+
+pub fn set64(s: &mut [u64], i: usize, x: u64)
+    ensures { λ _. ⌜ now (s .exit) ≡ set (now (s .entry)) i x ⌝ }
+{
+    if i < s.len() {
+        s[i] = x;
+    }
+}

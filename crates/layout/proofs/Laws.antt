@@ -1,16 +1,20 @@
 -- What a geometry that is not refused may count on.
 -- Assumes nothing.
 use Prim.Native.Nat.{ℕ, _+_, _*_, _%_, _≤_, _<_}
-use mathlib.Core.Path.{_≡_, refl}
+use mathlib.Core.Path.{_≡_, refl, ap, _∙_}
 use mathlib.Core.Logic.{_⊎_, inl, inr}
 use mathlib.Core.Bool.{Bool, true, false, not, _||_}
 use native.Mathlib.Omega.{arith}
 use lib.Dec.{ltb, leb, eqb}
 use borrow.Author.Tests.{eqb-true, eqb-false, ltb-false, leb-true, not-false}
+use lib.ListN.{getD}
+use Rattle.base.specs.declared.RingError.{RingError}
+use Rattle.base.specs.Refusals.{numberOf}
 use Rattle.base.specs.Answer.{Answer, done, refused}
+use Rattle.base.proofs.Refusals.{number-low}
 use Rattle.base.proofs.Tests.{split, neither, positive}
 use Rattle.layout.specs.declared.Layout.{Layout}
-use Rattle.layout.specs.Layout.{apart, tableBytes, badLayout, outside, valuesOf, openOf}
+use Rattle.layout.specs.Layout.{layout, apart, tableBytes, badLayout, outside, valuesOf, openOf}
 
 -- one of two areas ends by the other's start
 pub Apart : ℕ → ℕ → ℕ → ℕ → Type 0
@@ -84,3 +88,27 @@ refuses l bytes e = simp e
 pub opens : (l : Layout) (bytes : ℕ) → badLayout l || outside l bytes ≡ false → openOf l bytes ≡ done (valuesOf l)
 unfolding openOf
 opens l bytes e = simp e
+
+-- read the other way: what an end that opens learns from the answer
+module _ (l : Layout) (bytes : ℕ) where
+  abbrev bad : Bool
+  bad = badLayout l || outside l bytes
+
+  pub layout-refused : (e : RingError) → refused (numberOf e) ≡ openOf l bytes → bad ≡ true
+  layout-refused e h =
+      split bad (λ t. t) (λ f. absurd (zero-not e (ap (λ (a : Answer). a .number) (h ∙ opens l bytes f))))
+    where
+      zero-not : (d : RingError) → numberOf d ≡ 0 → ⊥
+      zero-not d z = omega (arith, number-low d)
+
+  pub layout-taken : (m : Layout) → done (valuesOf m) ≡ openOf l bytes → (bad ≡ false) × (m ≡ l)
+  layout-taken m h =
+      split bad
+      (λ t. absurd (six (ap (λ (a : Answer). a .number) (h ∙ refuses l bytes t))))
+      (λ f. (f, same (h ∙ opens l bytes f)))
+    where
+      six : _≡_ {A = ℕ} 0 6 → ⊥
+      six z = omega arith
+
+      same : done (valuesOf m) ≡ done (valuesOf l) → m ≡ l
+      same g = λ i. layout (getD (g i .values) 0 0) (getD (g i .values) 1 0) (getD (g i .values) 2 0) (getD (g i .values) 3 0)

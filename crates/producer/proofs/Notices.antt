@@ -14,7 +14,7 @@ use Rattle.layout.specs.Layout.{outside}
 use Rattle.producer.specs.declared.RingProducer.{RingProducer}
 use Rattle.producer.specs.Record.{badRecord}
 use Rattle.producer.specs.Outcome.{changed}
-use Rattle.producer.proofs.Submit.{cond-lt}
+use Rattle.base.proofs.Ladder.{cond-lt}
 use Rattle.event.specs.Event.{DESC}
 use Rattle.ring.specs.Events.{turned, armed, told}
 use Rattle.producer.specs.Notices.{bytesRefusal, sinceRefusal, shadowOf, turnOf, armOf, sinceOf}

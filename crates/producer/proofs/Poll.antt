@@ -16,8 +16,8 @@ use Rattle.producer.specs.declared.RingProducer.{RingProducer}
 use Rattle.producer.specs.Record.{badRecord, badLent}
 use Rattle.producer.specs.Outcome.{outcome}
 use Rattle.producer.specs.Submit.{topOf}
-use Rattle.producer.proofs.Ready.{Sound, sound, Lent, lent, passed}
-use Rattle.producer.proofs.Submit.{cond-lt}
+use Rattle.producer.proofs.Ready.{Sound, sound, Lent, lent}
+use Rattle.base.proofs.Ladder.{passed, cond-lt}
 use Rattle.ring.specs.Slots.{slotOf}
 use Rattle.producer.specs.Poll.{pollRefusal, polledOf, pollOf, nextRefusal, nextOf}
 

@@ -1,15 +1,14 @@
 -- What a call that is not refused may count on.
 -- Assumes nothing.
 use Prim.Native.Nat.{ℕ, _≤_, _<_}
-use mathlib.Core.Path.{_≡_, refl, ap, _∙_}
+use mathlib.Core.Path.{_≡_}
 use mathlib.Core.List.{List}
-use mathlib.Core.Bool.{Bool, true, false, cond, _||_}
+use mathlib.Core.Bool.{false, _||_}
 use native.Mathlib.Omega.{arith}
 use lib.Dec.{ltb, leb, eqb}
 use lib.ListN.{length, getD}
 use borrow.Author.Tests.{eqb-true, eqb-false, ltb-false, leb-false, not-false}
-use Rattle.base.specs.Refusals.{listed}
-use Rattle.base.proofs.Refusals.{listed-in}
+use Rattle.base.proofs.Ladder.{passed}
 use Rattle.base.proofs.Tests.{neither, positive}
 use Rattle.layout.specs.Layout.{badLayout, outside}
 use Rattle.layout.proofs.Laws.{Laid, laid, Within, within}
@@ -59,11 +58,6 @@ lent p bytes ids counts e =
       counts-whole = ltb-false counts (p .layout .size) (b .1);
     }
 
--- a rung of a ladder: where the whole is 0, its test failed and the rest is 0
-pub passed : (b : Bool) (x y : ℕ) → 0 < x → cond b x y ≡ 0 → (b ≡ false) × (y ≡ 0)
-passed true x y h e = absurd (omega arith)
-passed false x y h e = (refl, e)
-
 -- what a submission that is not refused may count on
 module _ (p : RingProducer) (bytes : ℕ) (ids counts : List ℕ) (n lens readable : ℕ) where
   pub record Ready : Type 0 where
@@ -97,7 +91,3 @@ module _ (p : RingProducer) (bytes : ℕ) (ids counts : List ℕ) (n lens readab
         id = leb-false (p .layout .size) (topOf p ids) (i .0);
         unheld = eqb-true (getD counts (topOf p ids) 0) 0 (not-false (eqb (getD counts (topOf p ids) 0) 0) (i .1));
       }
-
--- a refusal's name has the ladder's number
-pub named : (m k n : ℕ) → m ≡ listed k → k ≡ n → (n ≡ 0 → ⊥) → n < 9 → m ≡ n
-named m k n e f z h = e ∙ ap listed f ∙ listed-in n (positive z) h

@@ -1,26 +1,20 @@
 -- The ways an opening and a reset end.
 -- Assumes nothing.
 use Prim.Native.Nat.{ℕ, _<_}
-use mathlib.Core.Path.{_≡_, ap, _∙_}
+use mathlib.Core.Path.{_≡_}
 use mathlib.Core.List.{List, []}
-use mathlib.Core.Bool.{Bool, true, false, _||_}
+use mathlib.Core.Bool.{true, false, _||_}
 use native.Mathlib.Omega.{arith}
 use lib.Dec.{ltb}
-use lib.ListN.{length, getD}
+use lib.ListN.{length}
 use borrow.Author.Tests.{eq-eqb, ne-eqb}
-use Rattle.base.specs.declared.RingError.{RingError}
-use Rattle.base.specs.Refusals.{numberOf}
-use Rattle.base.specs.Answer.{Answer, done, refused}
-use Rattle.base.proofs.Refusals.{number-low}
-use Rattle.base.proofs.Tests.{split}
+use Rattle.base.specs.Answer.{done, refused}
 use Rattle.layout.specs.Layout.{layout, badLayout, outside}
 use Rattle.layout.specs.declared.Layout.{Layout}
-use Rattle.layout.specs.Layout as laying
-use Rattle.layout.proofs.Laws.{opens, refuses}
 use Rattle.producer.specs.declared.RingProducer.{RingProducer}
 use Rattle.producer.specs.Record.{badRecord, badLent}
 use Rattle.producer.specs.Outcome.{outcome}
-use Rattle.producer.proofs.Submit.{cond-lt}
+use Rattle.base.proofs.Ladder.{cond-lt}
 use lib.ListN.{replicate}
 use lib.Seq.{sets}
 use Rattle.ring.specs.Tables.{upTo}
@@ -47,30 +41,7 @@ module _ (p : RingProducer) (ring ids counts : List ℕ) where
   unfolding resetOf
   reset-done h = simp (eq-eqb no 0 h)
 
--- ---- opening: the layout's answer says which way it ends
-
-module _ (l : Layout) (bytes : ℕ) where
-  abbrev bad : Bool
-  bad = badLayout l || outside l bytes
-
-  pub layout-refused : (e : RingError) → refused (numberOf e) ≡ laying.openOf l bytes → bad ≡ true
-  layout-refused e h =
-      split bad (λ t. t) (λ f. absurd (zero-not e (ap (λ (a : Answer). a .number) (h ∙ opens l bytes f))))
-    where
-      zero-not : (d : RingError) → numberOf d ≡ 0 → ⊥
-      zero-not d z = omega (arith, number-low d)
-
-  pub layout-taken : (m : Layout) → done (laying.valuesOf m) ≡ laying.openOf l bytes → (bad ≡ false) × (m ≡ l)
-  layout-taken m h =
-      split bad
-      (λ t. absurd (six (ap (λ (a : Answer). a .number) (h ∙ refuses l bytes t))))
-      (λ f. (f, same (h ∙ opens l bytes f)))
-    where
-      six : _≡_ {A = ℕ} 0 6 → ⊥
-      six z = omega arith
-
-      same : done (laying.valuesOf m) ≡ done (laying.valuesOf l) → m ≡ l
-      same g = λ i. layout (getD (g i .values) 0 0) (getD (g i .values) 1 0) (getD (g i .values) 2 0) (getD (g i .values) 3 0)
+-- ---- opening
 
 module _ (size table driver device : ℕ) (ring ids counts : List ℕ) where
   abbrev at : Layout

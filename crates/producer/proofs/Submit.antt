@@ -3,22 +3,18 @@
 use Prim.Native.Nat.{ℕ, _<_}
 use mathlib.Core.Path.{_≡_}
 use mathlib.Core.List.{List}
-use mathlib.Core.Bool.{Bool, true, false, not, cond, _||_}
+use mathlib.Core.Bool.{not, _||_}
 use native.Mathlib.Omega.{arith}
 use lib.Dec.{ltb, leb, eqb}
 use lib.ListN.{length, getD}
 use borrow.Author.Tests.{eq-eqb, ne-eqb}
 use Rattle.base.specs.Answer.{refused}
+use Rattle.base.proofs.Ladder.{cond-lt}
 use Rattle.chain.specs.Chain.{badChain}
 use Rattle.producer.specs.declared.RingProducer.{RingProducer}
 use Rattle.producer.specs.Outcome.{outcome}
 use Rattle.producer.specs.Record.{badRecord, badLent}
 use Rattle.producer.specs.Submit.{topOf, submitRefusal, elementOf, putChain, submittedOf, submitOf}
-
--- one of two numbers is below what both are below
-pub cond-lt : (b : Bool) (x y : ℕ) {m : ℕ} → x < m → y < m → cond b x y < m
-cond-lt true x y p q = p
-cond-lt false x y p q = q
 
 -- no refusal of a submission is past 8
 pub refusal-below : (p : RingProducer) (bytes : ℕ) (ids counts : List ℕ) (n lens readable : ℕ) → submitRefusal p bytes ids counts n lens readable < 9

@@ -6,7 +6,8 @@ use lib.ListN.{length}
 use Rattle.base.specs.Answer.{done}
 use Rattle.layout.specs.Layout.{layout, answerOf}
 use Rattle.producer.specs.Fresh.{freshOf, recordValues, opened}
-use Rattle.producer.proofs.Reset.{layout-refused, layout-taken, opening-refused, opening-short, opening-done}
+use Rattle.layout.proofs.Laws.{layout-refused, layout-taken}
+use Rattle.producer.proofs.Reset.{opening-refused, opening-short, opening-done}
 use Rattle.producer.proofs.RingProducer.new.Statement.{statement}
 use Rattle.producer.proofs.RingProducer.new.Tie as tie
 

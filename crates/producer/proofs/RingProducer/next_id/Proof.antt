@@ -7,7 +7,7 @@ use mathlib.Core.List.{[], _∷_}
 use lib.ListN.{getD}
 use Rattle.base.specs.Refusals.{numberOf}
 use Rattle.base.specs.Answer.{done, refused}
-use Rattle.producer.proofs.Ready.{named}
+use Rattle.base.proofs.Ladder.{named}
 use Rattle.producer.specs.Poll.{nextRefusal}
 use Rattle.producer.proofs.Poll.{next-below, next-refused, next-done}
 use Rattle.producer.proofs.RingProducer.next_id.Statement.{statement}

@@ -7,7 +7,7 @@ use mathlib.Core.List.{[], _∷_}
 use lib.ListN.{length}
 use Rattle.base.specs.Refusals.{numberOf}
 use Rattle.base.specs.Answer.{done, refused}
-use Rattle.producer.proofs.Ready.{named}
+use Rattle.base.proofs.Ladder.{named}
 use native.Mathlib.Omega.{arith}
 use Rattle.desc.specs.declared.Descriptor.{Descriptor}
 use Rattle.cursor.proofs.Ready.{ready-not-bad}

@@ -15,7 +15,7 @@ use Rattle.desc.specs.declared.DescTable.{DescTable}
 use Rattle.event.specs.Event.{ENABLE, event, encodeOf}
 use Rattle.producer.specs.Outcome.{outcome}
 use Rattle.producer.specs.Fresh.{allRefusal}
-use Rattle.producer.proofs.Ready.{named}
+use Rattle.base.proofs.Ladder.{named}
 use Rattle.producer.proofs.Reset.{all-below, reset-refused, reset-done}
 use Rattle.producer.proofs.RingProducer.reset.Statement.{statement}
 use Rattle.producer.proofs.RingProducer.reset.Tie as tie

@@ -6,7 +6,7 @@ use mathlib.Core.List.{[], _∷_}
 use lib.ListN.{length}
 use Rattle.base.specs.Refusals.{numberOf}
 use Rattle.base.specs.Answer.{done, refused, bit}
-use Rattle.producer.proofs.Ready.{named}
+use Rattle.base.proofs.Ladder.{named}
 use mathlib.Core.Bool.{Bool}
 use Rattle.producer.specs.Notices.{sinceRefusal}
 use Rattle.producer.proofs.Notices.{since-below, since-refused, since-done}

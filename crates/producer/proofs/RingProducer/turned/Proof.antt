@@ -7,7 +7,7 @@ use mathlib.Core.List.{List, []}
 use lib.ListN.{length}
 use Rattle.base.specs.Refusals.{numberOf}
 use Rattle.base.specs.Answer.{done, refused}
-use Rattle.producer.proofs.Ready.{named}
+use Rattle.base.proofs.Ladder.{named}
 use Rattle.producer.specs.declared.RingProducer.{RingProducer}
 use Rattle.producer.specs.Outcome.{changed}
 use Rattle.producer.specs.Notices.{bytesRefusal}

@@ -1,0 +1,4 @@
+pub mod Marks
+pub mod Judged
+pub mod Laws
+pub mod Fixed
