@@ -5,4 +5,5 @@ pub mod Rollback
 pub mod Notices
 pub mod Reset
 pub mod Same
+pub mod Touch
 pub mod Fixed

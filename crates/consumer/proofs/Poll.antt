@@ -1,22 +1,24 @@
 -- The ways a poll ends.
 -- Assumes nothing.
 use Prim.Native.Nat.{ℕ, _+_, _≤_, _<_}
-use mathlib.Core.Path.{_≡_, refl}
-use mathlib.Core.List.{List, [], _∷_}
+use mathlib.Core.Path.{_≡_, refl, _∙_}
+use mathlib.Core.List.{List, [], _∷_, map}
 use mathlib.Core.Bool.{Bool, true, false, not, cond, _||_}
 use native.Mathlib.Omega.{arith}
 use lib.Dec.{ltb, leb, eqb}
-use lib.ListN.{length, getD}
-use borrow.Author.Tests.{eq-eqb, ne-eqb, eqb-true, ltb-false, leb-false, not-false}
+use lib.ListN.{length, getD, set}
+use lib.Seq.{sets}
+use borrow.Author.Tests.{eq-eqb, ne-eqb, le-ltb, lt-leb, eqb-true, ltb-false, leb-false, not-false}
 use Rattle.base.specs.Answer.{done, refused, bit}
 use Rattle.base.proofs.Tests.{neither}
 use Rattle.base.proofs.Ladder.{passed, cond-lt}
 use Rattle.desc.specs.declared.Descriptor.{Descriptor}
 use Rattle.desc.specs.Flags.{isAvail}
 use Rattle.walk.specs.declared.Walk.{Walk}
+use Rattle.walk.specs.Walk.{slotsFrom, addrOf, lenOf}
 use Rattle.consumer.specs.declared.RingConsumer.{RingConsumer}
 use Rattle.consumer.specs.Record.{badRecord, badLent, bytesRefusal}
-use Rattle.consumer.specs.Poll.{taken, headRefusal, walkRefusal, walkedOf, headOf, pollRefusal, takenOf, pollOf, peekOf}
+use Rattle.consumer.specs.Poll.{taken, headRefusal, walkRefusal, walkedOf, headOf, pollRefusal, pastOf, takenOf, pollOf, peekOf}
 use Rattle.consumer.proofs.Ready.{Sound, sound, Lent, lent}
 
 -- what a poll may count on that is not refused up to its head
@@ -55,6 +57,13 @@ module _ (p : RingConsumer) (bytes : ℕ) (d : Descriptor) (counts addrs lens : 
       cond-lt (badRecord p) 7 _ (omega arith)
       (cond-lt (badLent p bytes counts || (ltb addrs (p .layout .size) || ltb lens (p .layout .size))) 8 _ (omega arith)
       (cond-lt (not (isAvail (d .flags) (p .avail .wrap))) 3 rest (omega arith) h))
+
+  -- read the other way: with nothing of these in its way, a poll goes on behind the head
+  pub head-goes :
+      badRecord p ≡ false → badLent p bytes counts ≡ false → p .layout .size ≤ addrs → p .layout .size ≤ lens
+      → isAvail (d .flags) (p .avail .wrap) ≡ true → (rest : ℕ) → head rest ≡ rest
+  unfolding headRefusal
+  head-goes r l a b v rest = simp (r, l, le-ltb addrs (p .layout .size) a, le-ltb lens (p .layout .size) b, v)
 
   -- what comes behind the head counts exactly if nothing before it refuses
   pub head-passed : (rest : ℕ) → head 0 ≡ 0 → head rest ≡ rest
@@ -102,6 +111,13 @@ module _ (p : RingConsumer) (w : Walk) (id : ℕ) (counts : List ℕ) where
         room = ltb-false (p .layout .size) (p .inflight + w .count) (h .1);
       }
 
+  pub walk-goes :
+      w .bad ≡ false → w .more ≡ false → id < p .layout .size → getD counts id 0 ≡ 0 → p .inflight + w .count ≤ p .layout .size
+      → walkRefusal p w id counts ≡ 0
+  unfolding walkRefusal
+  walk-goes b m i h r =
+      simp (b, m, lt-leb (p .layout .size) id i, eq-eqb (getD counts id 0) 0 h, le-ltb (p .layout .size) (p .inflight + w .count) r)
+
   pub walk-below : walkRefusal p w id counts < 9
   unfolding walkRefusal
   walk-below =
@@ -139,6 +155,22 @@ module _ (p : RingConsumer) (ring counts addrs lens : List ℕ) where
   poll-taken z h =
       let e = head-passed p (length ring) (headOf p ring) (length counts) (length addrs) (length lens) at-walk z in
       simp (e, eq-eqb at-walk 0 h)
+
+  -- all of a poll that is not refused, in one equation
+  pub poll-takes :
+      no ≡ 0
+      → pollOf p ring counts addrs lens
+      ≡ taken (done (headOf p ring .id ∷ walkedOf p ring .count ∷ walkedOf p ring .readable ∷ []))
+      (pastOf p (walkedOf p ring .at) (walkedOf p ring .count)) (set counts (headOf p ring .id) (walkedOf p ring .count))
+      (sets addrs 0 (map addrOf (slotsFrom (p .layout .table) (p .layout .size) ring (p .avail) (walkedOf p ring .count))))
+      (sets lens 0 (map lenOf (slotsFrom (p .layout .table) (p .layout .size) ring (p .avail) (walkedOf p ring .count))))
+  unfolding pollOf takenOf
+  poll-takes h = simp (eq-eqb no 0 h)
+
+  -- and what is not in its way, it takes
+  pub poll-goes : at-head ≡ 0 → at-walk ≡ 0 → no ≡ 0
+  unfolding pollRefusal
+  poll-goes z h = head-passed p (length ring) (headOf p ring) (length counts) (length addrs) (length lens) at-walk z ∙ h
 
   -- what a poll that is not refused may count on
   pub record PollReady : Type 0 where

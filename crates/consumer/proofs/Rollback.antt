@@ -141,6 +141,15 @@ module _ (p : RingConsumer) (counts : List ℕ) (cp : Checkpoint) (ids : List �
       handed-passed p cp (length counts) (cond (bad || stale) 9 0) z ∙ ap (λ (b : Bool). cond b 9 0) h in
       simp e
 
+  -- by the whole refusal: the counts cleared, or as they were
+  pub rollback-cleared : rollbackRefusal p counts cp ids ≡ 0 → rollbackOf p counts cp ids .counts ≡ clearedOf counts ids
+  unfolding rollbackOf
+  rollback-cleared z = simp (eq-eqb (rollbackRefusal p counts cp ids) 0 z)
+
+  pub rollback-kept : (rollbackRefusal p counts cp ids ≡ 0 → ⊥) → rollbackOf p counts cp ids .counts ≡ counts
+  unfolding rollbackOf
+  rollback-kept z = simp (ne-eqb (rollbackRefusal p counts cp ids) 0 z)
+
   -- what the sum of the list says, where what was handed in is good: it stops exactly if an ID is bad or the sum is above what is in
   -- flight, and a sum above what is in flight is not the checkpoint's
   pub sum-stops : HandedReady p cp (length counts) → (k : ℕ) → refused k ≡ sumOf (p .layout .size) (p .inflight) counts ids → bad || stale ≡ true

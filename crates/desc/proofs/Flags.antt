@@ -112,3 +112,20 @@ pub used-not-avail : (d : Descriptor) (w v : Bool) → isAvail (markUsed d w .fl
 unfolding isAvail markUsed
 used-not-avail d w v = simp (used-bits (d .flags) w .0, used-bits (d .flags) w .1)
     (each-way (λ (a b : Bool). Bool·beq a b && not (Bool·beq a b) ≡ false) refl refl refl refl w v)
+
+-- a mark leaves all but the two bits of the round
+pub record Keeps (d m : Descriptor) : Type 0 where
+  pub addr : m .addr ≡ d .addr
+  pub len : m .len ≡ d .len
+  pub id : m .id ≡ d .id
+  pub flags : SameFlags (m .flags) (d .flags)
+
+pub avail-keeps : (d : Descriptor) (w : Bool) → Keeps d (markAvail d w)
+unfolding markAvail
+avail-keeps d w =
+    record { addr = refl; len = refl; id = refl; flags = same-flags (others (d .flags) + cond w AVAIL USED) (d .flags) (avail-others (d .flags) w) }
+
+pub used-keeps : (d : Descriptor) (w : Bool) → Keeps d (markUsed d w)
+unfolding markUsed
+used-keeps d w =
+    record { addr = refl; len = refl; id = refl; flags = same-flags (others (d .flags) + cond w (AVAIL + USED) 0) (d .flags) (used-others (d .flags) w) }

@@ -1,8 +1,10 @@
 pub mod Chain
+pub mod Frame
 pub mod Ready
 pub mod Submit
 pub mod Poll
 pub mod Notices
 pub mod Reset
 pub mod Same
+pub mod Touch
 pub mod Fixed

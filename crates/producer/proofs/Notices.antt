@@ -7,17 +7,49 @@ use mathlib.Core.Bool.{Bool, _||_}
 use native.Mathlib.Omega.{arith}
 use lib.Dec.{leb}
 use lib.ListN.{length}
-use borrow.Author.Tests.{eq-eqb, ne-eqb}
+use borrow.Author.Tests.{eq-eqb, ne-eqb, leb-false}
 use Rattle.base.specs.Answer.{done, refused, bit}
 use Rattle.cursor.specs.declared.RingCursor.{RingCursor}
 use Rattle.layout.specs.Layout.{outside}
+use Rattle.layout.proofs.Laws.{Within, within}
 use Rattle.producer.specs.declared.RingProducer.{RingProducer}
 use Rattle.producer.specs.Record.{badRecord}
 use Rattle.producer.specs.Outcome.{changed}
-use Rattle.base.proofs.Ladder.{cond-lt}
+use Rattle.producer.proofs.Ready.{Sound, sound}
+use Rattle.base.proofs.Tests.{neither}
+use Rattle.base.proofs.Ladder.{passed, cond-lt}
 use Rattle.event.specs.Event.{DESC}
 use Rattle.ring.specs.Events.{turned, armed, told}
 use Rattle.producer.specs.Notices.{bytesRefusal, sinceRefusal, shadowOf, turnOf, armOf, sinceOf}
+
+-- what a call that is lent the bytes alone may count on, and one that is handed a cursor too
+pub record BytesReady (p : RingProducer) (bytes : ℕ) : Type 0 where
+  pub sound : Sound p
+  pub bytes-whole : Within (p .layout) bytes
+
+pub bytes-ready : (p : RingProducer) (bytes : ℕ) → bytesRefusal p bytes ≡ 0 → BytesReady p bytes
+unfolding bytesRefusal
+bytes-ready p bytes e =
+    let e₁ = passed (badRecord p) 7 _ (omega arith) e in
+    let e₂ = passed (outside (p .layout) bytes) 8 0 (omega arith) (e₁ .1) in
+    record { sound = sound p (e₁ .0); bytes-whole = within (p .layout) bytes (e₂ .0) }
+
+pub record SinceReady (p : RingProducer) (bytes : ℕ) (old : RingCursor) : Type 0 where
+  pub sound : Sound p
+  pub old-below : old .head < p .layout .size
+  pub bytes-whole : Within (p .layout) bytes
+
+pub since-ready : (p : RingProducer) (bytes : ℕ) (old : RingCursor) → sinceRefusal p bytes old ≡ 0 → SinceReady p bytes old
+unfolding sinceRefusal
+since-ready p bytes old e =
+    let e₁ = passed (badRecord p || leb (p .layout .size) (old .head)) 7 _ (omega arith) e in
+    let e₂ = passed (outside (p .layout) bytes) 8 0 (omega arith) (e₁ .1) in
+    let a = neither (badRecord p) _ (e₁ .0) in
+    record {
+      sound = sound p (a .0);
+      old-below = leb-false (p .layout .size) (old .head) (a .1);
+      bytes-whole = within (p .layout) bytes (e₂ .0);
+    }
 
 pub bytes-below : (p : RingProducer) (bytes : ℕ) → bytesRefusal p bytes < 9
 unfolding bytesRefusal

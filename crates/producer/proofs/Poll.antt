@@ -7,7 +7,7 @@ use mathlib.Core.Bool.{true, not, _||_}
 use native.Mathlib.Omega.{arith}
 use lib.Dec.{ltb, leb, eqb}
 use lib.ListN.{length, getD}
-use borrow.Author.Tests.{eq-eqb, ne-eqb, eqb-false, ltb-false, leb-false, not-false}
+use borrow.Author.Tests.{eq-eqb, ne-eqb, eqb-true, eqb-false, ltb-false, leb-false, not-false}
 use Rattle.base.specs.Answer.{done, refused}
 use Rattle.base.proofs.Tests.{neither, positive}
 use Rattle.desc.specs.declared.Descriptor.{Descriptor}
@@ -78,7 +78,34 @@ module _ (p : RingProducer) (ring ids counts : List ℕ) where
   unfolding pollOf
   poll-done h = simp (eq-eqb no 0 h)
 
+-- what a question for the next ID that is not refused may count on
 module _ (p : RingProducer) (ids counts : List ℕ) where
+  pub record NextReady : Type 0 where
+    pub sound : Sound p
+    pub ids-whole : p .layout .size ≤ length ids
+    pub counts-whole : p .layout .size ≤ length counts
+    pub stack : 0 < p .height
+    pub id : topOf p ids < p .layout .size
+    pub unheld : getD counts (topOf p ids) 0 ≡ 0
+
+  pub next-ready : nextRefusal p ids counts ≡ 0 → NextReady
+  unfolding nextRefusal
+  next-ready e =
+      let e₁ = passed (badRecord p) 7 _ (omega arith) e in
+      let e₂ = passed (ltb (length ids) (p .layout .size) || ltb (length counts) (p .layout .size)) 8 _ (omega arith) (e₁ .1) in
+      let e₃ = passed (eqb (p .height) 0) 4 _ (omega arith) (e₂ .1) in
+      let e₄ = passed _ 5 0 (omega arith) (e₃ .1) in
+      let l = neither (ltb (length ids) (p .layout .size)) _ (e₂ .0) in
+      let i = neither (leb (p .layout .size) (topOf p ids)) _ (e₄ .0) in
+      record {
+        sound = sound p (e₁ .0);
+        ids-whole = ltb-false (length ids) (p .layout .size) (l .0);
+        counts-whole = ltb-false (length counts) (p .layout .size) (l .1);
+        stack = positive (eqb-false (p .height) 0 (e₃ .0));
+        id = leb-false (p .layout .size) (topOf p ids) (i .0);
+        unheld = eqb-true (getD counts (topOf p ids) 0) 0 (not-false (eqb (getD counts (topOf p ids) 0) 0) (i .1));
+      }
+
   pub next-below : nextRefusal p ids counts < 9
   unfolding nextRefusal
   next-below =

@@ -14,11 +14,24 @@ use Rattle.layout.specs.declared.Layout.{Layout}
 use Rattle.producer.specs.declared.RingProducer.{RingProducer}
 use Rattle.producer.specs.Record.{badRecord, badLent}
 use Rattle.producer.specs.Outcome.{outcome}
-use Rattle.base.proofs.Ladder.{cond-lt}
+use Rattle.producer.proofs.Ready.{Sound, sound, Lent, lent}
+use Rattle.base.proofs.Ladder.{passed, cond-lt}
 use lib.ListN.{replicate}
 use lib.Seq.{sets}
 use Rattle.ring.specs.Tables.{upTo}
 use Rattle.producer.specs.Fresh.{freshOf, recordValues, opened, openOf, zeroedOf, allRefusal, resetOf}
+
+-- what a call that is lent the bytes and both tables may count on
+pub record AllReady (p : RingProducer) (bytes ids counts : ℕ) : Type 0 where
+  pub sound : Sound p
+  pub lent : Lent p bytes ids counts
+
+pub all-ready : (p : RingProducer) (bytes ids counts : ℕ) → allRefusal p bytes ids counts ≡ 0 → AllReady p bytes ids counts
+unfolding allRefusal
+all-ready p bytes ids counts e =
+    let e₁ = passed (badRecord p) 7 _ (omega arith) e in
+    let e₂ = passed (badLent p bytes ids counts) 8 0 (omega arith) (e₁ .1) in
+    record { sound = sound p (e₁ .0); lent = lent p bytes ids counts (e₂ .0) }
 
 pub all-below : (p : RingProducer) (bytes ids counts : ℕ) → allRefusal p bytes ids counts < 9
 unfolding allRefusal

@@ -1,0 +1,1 @@
+// Theorems alone: what a producer wrote is what a consumer reads.
