@@ -1,3 +1,4 @@
 pub mod Worth
 pub mod Premises
 pub mod Producer
+pub mod Consumer

@@ -22,7 +22,7 @@ use Rattle.producer.proofs.Ready.{Ready, ready}
 use Rattle.producer.proofs.Poll.{PollReady, poll-ready}
 
 -- a fresh ring of four slots over 72 bytes
-pub four : RingProducer
+unfoldable pub four : RingProducer
 four = freshOf (layout 4 0 64 68)
 
 -- the same with one slot and one ID out, and the completion of ID 3 at the used cursor
