@@ -1,0 +1,209 @@
+-- A history of calls and answers, and what it says: which chains were published, which polls stand, what was completed and what
+-- came back. Nothing of a ring's format is here; the type C of checkpoints is the ring's own.
+use Prim.Native.Nat.{ℕ, suc, _+_, _-_}
+use mathlib.Core.List.{List, [], _∷_, _++_}
+use mathlib.Core.Bool.{Bool, cond}
+use lib.Dec.{leb, eqb}
+use lib.ListN.{length, take, drop}
+
+-- a lent chain: addresses, lengths, and how many of its elements, the first ones, are readable
+pub record Chain : Type 0 where
+  pub addrs : List ℕ
+  pub lens : List ℕ
+  pub readable : ℕ
+
+-- a chain with its ID: as a submission published it, or as a poll gave it
+pub record Item : Type 0 where
+  pub id : ℕ
+  pub chain : Chain
+
+-- a completion: as the consumer made it, or as the producer got it
+pub record Done : Type 0 where
+  pub id : ℕ
+  pub len : ℕ
+
+-- what was asked in a call that was refused
+pub data Call (C : Type 0) : Type 0 where
+  submit : Chain → Call C
+  poll : Call C
+  complete : Done → Call C
+  reclaim : Call C
+  rollback : C → List ℕ → Call C
+  nextId : Call C
+  -- every other call
+  other : Call C
+
+-- an answer that changes nothing
+pub data Look (C : Type 0) : Type 0 where
+  -- next_id answered this ID, peek_available this
+  nexted : ℕ → Look C
+  peeked : Bool → Look C
+  -- any other question, and a notification turned or armed
+  quiet : Look C
+  -- a call by an end given its own last record, tables and bytes, refused with this number; whether what was handed in with the call
+  -- besides them was good: slices of equal length with a readable count within it, poll outputs of at least ring-size entries, a
+  -- cursor or checkpoint on the ring
+  refused : Call C → Bool → ℕ → Look C
+  -- a call given a foreign record, tables or bytes, answered with this number (0 is success)
+  astray : ℕ → Look C
+
+-- one call with its answer
+pub data Event (C : Type 0) : Type 0 where
+  submitted : Item → Event C
+  polled : Item → Event C
+  completed : Done → Event C
+  -- poll_used returned this completion
+  reclaimed : Done → Event C
+  -- poll_checkpoint answered this checkpoint
+  marked : C → Event C
+  -- a rollback to this checkpoint, with this list, was accepted
+  rolled : C → List ℕ → Event C
+  looked : Look C → Event C
+
+-- THE LATEST EVENT FIRST: `e ∷ h` is h and then e
+abbrev pub History : Type 0 → Type 0
+History C = List (Event C)
+
+-- the slots of a chain: one for each element
+abbrev pub slotsOf : Chain → ℕ
+slotsOf c = length (c .addrs)
+
+-- a poll with its number: the first poll of a history that gave a chain is number 1
+pub record Poll : Type 0 where
+  pub no : ℕ
+  pub item : Item
+
+abbrev pub items : List Poll → List Item
+items [] = []
+items (p ∷ ps) = p .item ∷ items ps
+
+abbrev pub ids : List Poll → List ℕ
+ids [] = []
+ids (p ∷ ps) = p .item .id ∷ ids ps
+
+-- of polls whose numbers rise, those up to number k, and those after it
+abbrev pub upto : ℕ → List Poll → List Poll
+upto k [] = []
+upto k (p ∷ ps) = cond (leb (p .no) k) (p ∷ upto k ps) []
+
+abbrev pub after : ℕ → List Poll → List Poll
+after k [] = []
+after k (p ∷ ps) = cond (leb (p .no) k) (after k ps) (p ∷ ps)
+
+-- all but the last n
+abbrev pub butLast : {A : Type 0} → ℕ → List A → List A
+butLast n l = take (length l - n) l
+
+-- without the one of that ID
+abbrev pub without : ℕ → List Poll → List Poll
+without x [] = []
+without x (p ∷ ps) = cond (eqb (p .item .id) x) ps (p ∷ without x ps)
+
+abbrev pub withoutItem : ℕ → List Item → List Item
+withoutItem x [] = []
+withoutItem x (i ∷ is) = cond (eqb (i .id) x) is (i ∷ withoutItem x is)
+
+-- how often a number stands in a list
+abbrev pub times : ℕ → List ℕ → ℕ
+times y [] = 0
+times y (x ∷ xs) = cond (eqb x y) 1 0 + times y xs
+
+-- the slots of some chains
+abbrev pub slotsIn : List Item → ℕ
+slotsIn [] = 0
+slotsIn (i ∷ is) = slotsOf (i .chain) + slotsIn is
+
+module _ {C : Type 0} where
+  -- the chains published, the polls that gave one, the completions, and the completions that the producer got back, each the oldest
+  -- first
+  unfoldable pub pubs : History C → List Item
+  pubs [] = []
+  pubs (submitted x ∷ h) = pubs h ++ (x ∷ [])
+  pubs (polled x ∷ h) = pubs h
+  pubs (completed d ∷ h) = pubs h
+  pubs (reclaimed d ∷ h) = pubs h
+  pubs (marked c ∷ h) = pubs h
+  pubs (rolled c js ∷ h) = pubs h
+  pubs (looked l ∷ h) = pubs h
+
+  unfoldable pub polls : History C → ℕ
+  polls [] = 0
+  polls (submitted x ∷ h) = polls h
+  polls (polled x ∷ h) = suc (polls h)
+  polls (completed d ∷ h) = polls h
+  polls (reclaimed d ∷ h) = polls h
+  polls (marked c ∷ h) = polls h
+  polls (rolled c js ∷ h) = polls h
+  polls (looked l ∷ h) = polls h
+
+  unfoldable pub comps : History C → List Done
+  comps [] = []
+  comps (submitted x ∷ h) = comps h
+  comps (polled x ∷ h) = comps h
+  comps (completed d ∷ h) = comps h ++ (d ∷ [])
+  comps (reclaimed d ∷ h) = comps h
+  comps (marked c ∷ h) = comps h
+  comps (rolled c js ∷ h) = comps h
+  comps (looked l ∷ h) = comps h
+
+  unfoldable pub reclaims : History C → List Done
+  reclaims [] = []
+  reclaims (submitted x ∷ h) = reclaims h
+  reclaims (polled x ∷ h) = reclaims h
+  reclaims (completed d ∷ h) = reclaims h
+  reclaims (reclaimed d ∷ h) = reclaims h ++ (d ∷ [])
+  reclaims (marked c ∷ h) = reclaims h
+  reclaims (rolled c js ∷ h) = reclaims h
+  reclaims (looked l ∷ h) = reclaims h
+
+  -- the polls that stand: those that gave a chain and were not rolled back. A rollback undoes as many as its list names, the latest.
+  unfoldable pub lives : History C → List Poll
+  lives [] = []
+  lives (submitted x ∷ h) = lives h
+  lives (polled x ∷ h) = lives h ++ (record { no = suc (polls h); item = x } ∷ [])
+  lives (completed d ∷ h) = lives h
+  lives (reclaimed d ∷ h) = lives h
+  lives (marked c ∷ h) = lives h
+  lives (rolled c js ∷ h) = butLast (length js) (lives h)
+  lives (looked l ∷ h) = lives h
+
+  -- the polls that stand and are not completed: what the consumer holds
+  unfoldable pub held : History C → List Poll
+  held [] = []
+  held (submitted x ∷ h) = held h
+  held (polled x ∷ h) = held h ++ (record { no = suc (polls h); item = x } ∷ [])
+  held (completed d ∷ h) = without (d .id) (held h)
+  held (reclaimed d ∷ h) = held h
+  held (marked c ∷ h) = held h
+  held (rolled c js ∷ h) = butLast (length js) (held h)
+  held (looked l ∷ h) = held h
+
+  -- the chains that are out: published, and their completion not yet returned by poll_used
+  unfoldable pub out : History C → List Item
+  out [] = []
+  out (submitted x ∷ h) = out h ++ (x ∷ [])
+  out (polled x ∷ h) = out h
+  out (completed d ∷ h) = out h
+  out (reclaimed d ∷ h) = withoutItem (d .id) (out h)
+  out (marked c ∷ h) = out h
+  out (rolled c js ∷ h) = out h
+  out (looked l ∷ h) = out h
+
+  -- the ID that next_id answered, if nothing was submitted or returned since
+  unfoldable pub promised : History C → List ℕ
+  promised [] = []
+  promised (submitted x ∷ h) = []
+  promised (polled x ∷ h) = promised h
+  promised (completed d ∷ h) = promised h
+  promised (reclaimed d ∷ h) = []
+  promised (marked c ∷ h) = promised h
+  promised (rolled c js ∷ h) = promised h
+  promised (looked (nexted i) ∷ h) = i ∷ []
+  promised (looked (peeked b) ∷ h) = promised h
+  promised (looked quiet ∷ h) = promised h
+  promised (looked (refused c g n) ∷ h) = promised h
+  promised (looked (astray n) ∷ h) = promised h
+
+  -- the chains that wait: published, and with no poll that stands
+  abbrev pub waiting : History C → List Item
+  waiting h = drop (length (lives h)) (pubs h)
