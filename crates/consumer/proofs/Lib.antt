@@ -6,4 +6,5 @@ pub mod Notices
 pub mod Reset
 pub mod Same
 pub mod Touch
+pub mod Goes
 pub mod Fixed

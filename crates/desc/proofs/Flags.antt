@@ -1,6 +1,6 @@
 -- The flags word: its parts do not overlap, and marking and testing agree.
 -- Assumes nothing.
-use Prim.Native.Nat.{ℕ, _+_, _*_, _/_, _%_, _<_}
+use Prim.Native.Nat.{ℕ, _+_, _*_, _/_, _%_, _^_, _<_}
 use mathlib.Core.Path.{_≡_, refl, sym, _∙_, ap}
 use mathlib.Core.Bool.{Bool, true, false, not, cond, _&&_, Bool·beq}
 use native.Mathlib.Omega.{arith}
@@ -9,7 +9,8 @@ use borrow.Author.Tests.{eq-eqb, ne-eqb}
 use Rattle.base.proofs.Tests.{each-way}
 use Rattle.desc.specs.declared.Descriptor.{Descriptor}
 use Rattle.desc.specs.Flags.{NEXT, WRITE, INDIRECT, AVAIL, USED, others, has, isAvail, isUsed}
-use Rattle.desc.specs.Desc.{markAvail, markUsed}
+use Rattle.desc.specs.Desc.{descriptor, markAvail, markUsed}
+use Rattle.desc.proofs.Trips.{Ranged}
 
 -- what a mark leaves: a 16-bit word, in which the other bits are the ones that were there
 module _ (f : ℕ) where
@@ -129,3 +130,47 @@ pub used-keeps : (d : Descriptor) (w : Bool) → Keeps d (markUsed d w)
 unfolding markUsed
 used-keeps d w =
     record { addr = refl; len = refl; id = refl; flags = same-flags (others (d .flags) + cond w (AVAIL + USED) 0) (d .flags) (used-others (d .flags) w) }
+
+-- the two bits of the round, of a marked descriptor
+pub marked-avail : (d : Descriptor) (w : Bool) → (has (markAvail d w .flags) AVAIL ≡ w) × (has (markAvail d w .flags) USED ≡ not w)
+unfolding markAvail
+marked-avail d w = avail-bits (d .flags) w
+
+pub marked-used : (d : Descriptor) (w : Bool) → (has (markUsed d w .flags) AVAIL ≡ w) × (has (markUsed d w .flags) USED ≡ w)
+unfolding markUsed
+marked-used d w = used-bits (d .flags) w
+
+-- a marked descriptor is one still
+pub used-fields : (len id : ℕ) (w : Bool) → (markUsed (descriptor 0 len id 0) w .id ≡ id) × (markUsed (descriptor 0 len id 0) w .len ≡ len)
+unfolding markUsed
+used-fields len id w = (refl, refl)
+
+pub used-ranged : (len id : ℕ) (w : Bool) → len < 256 ^ 4 → id < 256 ^ 2 → Ranged (markUsed (descriptor 0 len id 0) w)
+unfolding markUsed
+used-ranged len id w l i = record { addr = omega arith; len = l; id = i; flags = used-fits 0 w }
+
+-- the tests, by one bit of the other round
+pub not-avail : (f : ℕ) (w : Bool) → has f AVAIL ≡ not w → isAvail f w ≡ false
+unfolding isAvail
+not-avail f w e = simp e (flip w)
+  where
+    flip : (b : Bool) → Bool·beq (not b) b && not (Bool·beq (has f USED) b) ≡ false
+    flip true = refl
+    flip false = refl
+
+pub not-used : (f : ℕ) (w : Bool) → has f AVAIL ≡ not w → isUsed f w ≡ false
+unfolding isUsed
+not-used f w e = simp e (flip w)
+  where
+    flip : (b : Bool) → Bool·beq (not b) b && Bool·beq (has f USED) b ≡ false
+    flip true = refl
+    flip false = refl
+
+pub not-used-yet : (f : ℕ) (w : Bool) → has f USED ≡ not w → isUsed f w ≡ false
+unfolding isUsed
+not-used-yet f w e = simp e (flip (Bool·beq (has f AVAIL) w) w)
+  where
+    flip : (a b : Bool) → a && Bool·beq (not b) b ≡ false
+    flip true true = refl
+    flip true false = refl
+    flip false b = refl

@@ -4,7 +4,7 @@ use Prim.Native.Nat.{ℕ, _+_, _^_, _≤_, _<_}
 use mathlib.Core.Path.{_≡_, refl, sym, _∙_, ap, ap₂}
 use mathlib.Core.List.{List, [], _∷_, _++_, append-nil}
 use native.Mathlib.Omega.{arith}
-use lib.ListN.{length, take, drop, length-append}
+use lib.ListN.{length, take, drop, replicate, length-append}
 use lib.Seq.{drop-drop, take-all, take-add}
 use Rattle.base.specs.Bytes.{bytesOf, wordAt}
 use Rattle.base.proofs.Words.{Bytes, bytes-are, bytes-append, word-bytes, word-after, bytes-word, length-bytes}
@@ -66,3 +66,8 @@ encode-decode bs b e =
     -- a part and the part after it are one part
     joined : (n m i : ℕ) → take n (drop i bs) ++ take m (drop (i + n) bs) ≡ take (n + m) (drop i bs)
     joined n m i = ap (λ (x : List ℕ). take n (drop i bs) ++ take m x) (sym (drop-drop n i bs)) ∙ sym (take-add n m (drop i bs))
+
+-- sixteen zeros are the descriptor of zeros
+pub decode-zeros : decodeOf (replicate 16 0) ≡ descriptor 0 0 0 0
+unfolding decodeOf wordAt
+decode-zeros = refl

@@ -8,16 +8,16 @@ use mathlib.Core.List.{List, [], _∷_}
 use mathlib.Core.Bool.{Bool}
 use native.Mathlib.Omega.{arith}
 use native.Mathlib.Nat.{add-zero, suc-add, add-suc}
-use lib.ListN.{length, getD, set, length-set}
-use lib.Seq.{sets, length-sets, getD-set-same, getD-set-other}
+use lib.ListN.{length, getD, set, replicate, length-set, length-replicate, getD-replicate}
+use lib.Seq.{sets, length-sets, getD-set-same, getD-set-other, ext-getD}
 use Rattle.base.specs.Answer.{Outcome}
 use Rattle.base.specs.Bytes.{putOf, getOf}
 use Rattle.base.proofs.Tests.{by-lt}
-use Rattle.base.proofs.Runs.{put-fits, put-short, get-same, get-other}
+use Rattle.base.proofs.Runs.{put-fits, put-short, get-fits, get-length, get-same, get-other, part-at}
 use Rattle.cursor.specs.declared.RingCursor.{RingCursor}
 use Rattle.desc.specs.declared.Descriptor.{Descriptor}
-use Rattle.desc.specs.Desc.{encodeOf, decodeOf}
-use Rattle.desc.proofs.Trips.{Ranged, encode-length, decode-encode}
+use Rattle.desc.specs.Desc.{descriptor, encodeOf, decodeOf}
+use Rattle.desc.proofs.Trips.{Ranged, encode-length, decode-encode, decode-zeros}
 use Rattle.event.specs.Event as events
 use Rattle.event.proofs.Trips as eventTrips
 use Rattle.ring.specs.Slots.{placeOf, slotOf, slotPut}
@@ -50,6 +50,11 @@ pub slot-by-bytes :
 unfolding slotOf
 slot-by-bytes table k l m e = ap decodeOf e
 
+-- and by its head: the round is not in its place
+pub slot-by-head : (table : ℕ) (c k : RingCursor) (ring : List ℕ) → c .head ≡ k .head → slotOf table c ring ≡ slotOf table k ring
+unfolding slotOf
+slot-by-head table c k ring e = ap (λ (h : ℕ). decodeOf (getOf ring (table + h * 16) 16)) e
+
 module _ (table : ℕ) (c : RingCursor) (d : Descriptor) (ring : List ℕ) where
   pub slot-length : length (slotPut table c d ring) ≡ length ring
   unfolding slotPut
@@ -80,6 +85,21 @@ module _ (table : ℕ) (c : RingCursor) (d : Descriptor) (ring : List ℕ) where
     where
       behind : (x y : ℕ) → y ≤ x → (x ≡ y → ⊥) → table + y * 16 + 16 ≤ table + x * 16
       behind x y l h = by-lt y x (λ q. omega arith) (λ q. absurd (h (omega arith)))
+
+-- a slot of zero bytes
+pub slot-zero :
+    (table : ℕ) (c : RingCursor) (ring : List ℕ) → placeOf table c + 16 ≤ length ring
+    → ((k : ℕ) → k < 16 → getD ring (placeOf table c + k) 0 ≡ 0) → slotOf table c ring ≡ descriptor 0 0 0 0
+unfolding slotOf
+slot-zero table c ring h z =
+    let p = placeOf table c in
+    let n : length (getOf ring p 16) ≡ 16 = get-length ring p 16 in
+    ap decodeOf
+    (ext-getD 0 (getOf ring p 16) (replicate 16 0) (n ∙ sym (length-replicate {A = ℕ} 16 0))
+    (λ k q.
+    ap (λ (l : List ℕ). getD l k 0) (get-fits ring p 16 h) ∙ part-at ring p 16 k (omega (arith, n)) ∙ z k (omega (arith, n))
+    ∙ sym (getD-replicate {A = ℕ} 16 k 0 0 (omega (arith, n)))))
+    ∙ decode-zeros
 
 -- ---- an event area
 

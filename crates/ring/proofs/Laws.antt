@@ -2,7 +2,7 @@
 -- Assumes nothing.
 use Prim.Native.Nat.{ℕ, zero, suc, _+_, _^_, _<_}
 use mathlib.Core.Path.{_≡_, refl, sym, _∙_, ap, ap₂}
-use mathlib.Core.List.{List}
+use mathlib.Core.List.{List, [], _∷_}
 use mathlib.Core.Bool.{cond}
 use native.Mathlib.Omega.{arith}
 use native.Mathlib.Nat.{zero-add}
@@ -34,6 +34,14 @@ clamped-put l at bs h z =
     (λ p. ap (λ (i : ℕ). putOf l i bs) (rw (le-leb at 18446744073709551615 p)))
 
 -- ---- the lent tables
+
+pub up-none : (i : ℕ) → upFrom i zero ≡ []
+unfolding upFrom
+up-none i = refl
+
+pub up-more : (i k : ℕ) → upFrom i (suc k) ≡ i ∷ upFrom (suc i) k
+unfolding upFrom
+up-more i k = refl
 
 pub up-length : (i k : ℕ) → length (upFrom i k) ≡ k
 unfolding upFrom

@@ -7,7 +7,7 @@ use mathlib.Core.List.{List, [], _∷_}
 use mathlib.Core.Bool.{Bool, true, false, cond, _||_}
 use native.Mathlib.Omega.{arith}
 use native.Mathlib.Numerals.{add-one}
-use lib.Dec.{ltb, eqb}
+use lib.Dec.{ltb, leb, eqb}
 use lib.ListN.{length, getD, set, drop, length-set, drop-of-length-le}
 use lib.Seq.{drop-cons, getD-set-same, getD-set-other}
 use borrow.Author.Tests.{le-ltb, lt-ltb, eqb-false, ne-eqb}
@@ -118,3 +118,31 @@ cleared-named t (j ∷ ids) id l e =
     (λ q. cleared-other (set t j 0) ids id n ∙ ap (λ (i : ℕ). getD (set t i 0) id 0) (sym q) ∙ getD-set-same t id 0 0 l)
     (λ q. let z : _≡_ {A = Bool} true false = sym e ∙ ap (λ (b : Bool). b || named id ids) (ne-eqb id j q) ∙ n in
     let z′ : _≡_ {A = ℕ} 0 1 = cc in absurd (omega arith)))
+
+-- ---- the definitions, one ID at a time
+
+pub named-cons : (id first : ℕ) (ids : List ℕ) → named id (first ∷ ids) ≡ eqb id first || named id ids
+unfolding named
+named-cons id first ids = refl
+
+pub named-none : (id : ℕ) → named id [] ≡ false
+unfolding named
+named-none id = refl
+
+pub bad-none : (size : ℕ) (counts : List ℕ) → badIds size counts [] ≡ false
+unfolding badIds
+bad-none size counts = refl
+
+pub bad-cons :
+    (size : ℕ) (counts : List ℕ) (id : ℕ) (ids : List ℕ)
+    → badIds size counts (id ∷ ids) ≡ leb size id || (eqb (getD counts id 0) 0 || (named id ids || badIds size counts ids))
+unfolding badIds
+bad-cons size counts id ids = refl
+
+pub total-none : (counts : List ℕ) → totalOf counts [] ≡ 0
+unfolding totalOf
+total-none counts = refl
+
+pub total-cons : (counts : List ℕ) (id : ℕ) (ids : List ℕ) → totalOf counts (id ∷ ids) ≡ getD counts id 0 + totalOf counts ids
+unfolding totalOf
+total-cons counts id ids = refl
