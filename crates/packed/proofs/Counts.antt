@@ -6,6 +6,7 @@ use mathlib.Core.Logic.{_≢_, _⊎_, inl, inr}
 use mathlib.Core.Bool.{Bool, true, false, cond, not}
 use mathlib.Core.List.{List, [], _∷_, _++_}
 use native.Mathlib.Omega.{arith}
+use native.Mathlib.Nat.{add-zero}
 use native.Mathlib.Decide.{ℕ-discrete}
 use lib.ListN.{length, getD, set, take, length-set}
 use lib.Seq.{getD-set-same, getD-set-other, take-suc, take-set-le}
@@ -362,7 +363,10 @@ occ-push y l k x h =
 
 -- 0 upward holds each ID below the size once
 pub occ-up : (y i k : ℕ) → occS y (upFrom i k) + one i y ≡ one (i + k) y
-occ-up y i zero = ap₂ (λ (l : List ℕ) (m : ℕ). occS y l + one i y) (up-none i) refl ∙ ap (λ (m : ℕ). one m y) (omega arith)
+occ-up y i zero =
+    ap (λ (l : List ℕ). occS y l + one i y) (up-none i)
+    ∙ (let e : 0 + one i y ≡ one i y = omega arith in e)
+    ∙ ap (λ (m : ℕ). one m y) (sym (add-zero i))
 occ-up y i (suc k) =
     ap (λ (l : List ℕ). occS y l + one i y) (up-more i k)
     ∙ go (ℕ-discrete i y) (occ-up y (suc i) k ∙ ap (λ (m : ℕ). one m y) (omega arith))
