@@ -3,11 +3,11 @@
 //
 // Standard input: at most 170 records of 24 bytes: an op, a slot, an ID of two bytes, a length of four, sixteen bytes; numbers are
 // little-endian, and what an op does not name is zero.
-//   S  a ring of as many slots as `slot` says, all bytes zero; the sixteen are its name
+//   S  a ring of as many slots as `slot` says, all bytes zero; the first three of the sixteen are its name
 //   L  Linux wrote the sixteen into the slot            D  Linux wrote the first four into the driver's event area
 //   P  QEMU popped
 //   U  QEMU pushed the ID and the length, and the slot became the sixteen
-//   Y, N  the same, and was asked whether to notify: it said yes, no
+//   Y, N  the same, and QEMU was asked whether it notifies: yes, no
 //   A, O  QEMU turned notifications on, off, and the device's event area became the first four
 mod device;
 mod memory;
@@ -48,6 +48,11 @@ fn turn(
     c
 }
 
+fn unknown(c: RingConsumer) -> RingConsumer {
+    tell::words(b"unknown record\n");
+    c
+}
+
 // Before the first record there is no ring: whatever is asked of this one is refused with 7.
 fn closed() -> RingConsumer {
     let layout = Layout {
@@ -80,6 +85,7 @@ fn step(
         b'P' => device::pop(c, ring, counts),
         b'U' => device::push(c, r, ring, twin, counts),
         b'Y' | b'N' => device::push_and_ask(c, r, ring, twin, counts),
-        _ => device::turn(c, r, ring, twin),
+        b'A' | b'O' => device::turn(c, r, ring, twin),
+        _ => unknown(c),
     }
 }

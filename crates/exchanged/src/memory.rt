@@ -14,12 +14,11 @@ pub fn clear(ring: &mut [u8], twin: &mut [u8]) {
 pub fn put(s: &mut [u8], l: Layout, r: Record) {
     let at = r.place(l);
     let b = r.bytes;
-    let op = r.op;
-    match op {
-        b'D' | b'A' | b'O' => EventSuppression::read(&b, 0).write(s, at),
-        _ => desc::store(s, at, b),
+    if r.is_area() {
+        EventSuppression::read(&b, 0).write(s, at);
+    } else {
+        desc::store(s, at, b);
     }
-    ;
 }
 
 // What the port's call changed, then what QEMU has instead. From here on QEMU's bytes stand, so that what Linux writes later

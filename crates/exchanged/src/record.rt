@@ -22,6 +22,15 @@ impl Record {
         }
     }
 
+    // Are its bytes an event area's, and not a slot's?
+    pub fn is_area(self) -> bool {
+        let op = self.op;
+        match op {
+            b'D' | b'A' | b'O' => true,
+            _ => false,
+        }
+    }
+
     // Where its bytes belong.
     pub fn place(self, l: Layout) -> usize {
         let op = self.op;

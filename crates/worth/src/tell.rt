@@ -1,6 +1,7 @@
 // A line is a ring's size, the case, and what a call answered.
 use base::RingError;
 use consumer::PolledChain;
+use cursor::RingCursor;
 use libc::STDOUT_FILENO;
 use ring::AskedCount;
 use ring::AskedCursor;
@@ -59,17 +60,15 @@ pub fn opened(size: AskedCount) {
 // ", cursor HEAD WRAP" ends a line.
 pub fn cursor(asked: AskedCursor) {
     match asked {
-        AskedCursor::At(c) => {
-            number(b", cursor ", c.head() as u64);
-            round(c.wrap());
-        }
+        AskedCursor::At(c) => at(c),
         AskedCursor::Refused(e) => refused(e),
     }
     words(b"\n");
 }
 
-fn round(wrap: bool) {
-    if wrap {
+fn at(c: RingCursor) {
+    number(b", cursor ", c.head() as u64);
+    if c.wrap() {
         words(b" 1");
     } else {
         words(b" 0");
