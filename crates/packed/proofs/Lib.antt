@@ -1,3 +1,6 @@
 pub mod Position
 pub mod Counts
 pub mod Spells
+pub mod Invariant
+pub mod Answers
+pub mod Polls

@@ -1,0 +1,236 @@
+-- The invariant: how a world of both ends is like a queue, over unwrapped positions.
+-- Assumes nothing.
+use Prim.Native.Nat.{ℕ, _+_, _-_, _≤_, _<_}
+use mathlib.Core.Path.{_≡_, refl, sym, ap, ap₂, _∙_, subst}
+use mathlib.Core.Bool.{Bool, true, false, not}
+use mathlib.Core.List.{List, [], _∷_, _++_}
+use native.Mathlib.Omega.{arith}
+use lib.ListN.{length, getD, take}
+use Rattle.cursor.specs.declared.RingCursor.{RingCursor}
+use Rattle.desc.specs.declared.Descriptor.{Descriptor}
+use Rattle.desc.specs.Flags.{AVAIL, USED, has}
+use Rattle.layout.specs.declared.Layout.{Layout}
+use Rattle.layout.specs.Layout.{badLayout, outside}
+use Rattle.layout.proofs.Laws.{laid, within}
+use Rattle.ring.specs.Slots.{slotOf}
+use Rattle.producer.specs.Record as made
+use Rattle.producer.specs.Submit.{topOf}
+use Rattle.producer.proofs.Goes as makes
+use Rattle.consumer.specs.Record as takes
+use Rattle.consumer.specs.declared.Checkpoint.{Checkpoint}
+use Rattle.consumer.proofs.Goes as polls
+use Rattle.queue.specs.History.{Chain, Item, Done, Poll, Event, Look, slotsOf, slotsIn, items}
+use Rattle.queue.specs.History as said
+use Rattle.queue.proofs.Listing.{All}
+use Rattle.queue.proofs.Model.{Queue, Mark, next, looking, Ok}
+use Rattle.packed.specs.Machine.{World}
+use Rattle.packed.proofs.Position.{pos, round, view, pos-low, view-around, round-around}
+use Rattle.packed.proofs.Counts.{Held, Used, ofItems, ofUsed, dones, occS, occ, slots, tot, Pos, one, slots-tot}
+use Rattle.packed.proofs.Spells.{Spells, Returns, spells-cong, returns-cong}
+
+-- a chain that can be published: one element at least, slices of equal length, a readable count within it
+abbrev pub Fine : Item → Type 0
+Fine x = (0 < slotsOf (x .chain)) × ((length (x .chain .addrs) ≡ length (x .chain .lens)) × (x .chain .readable ≤ slotsOf (x .chain)))
+
+pub fine-pos : (xs : List Item) → All Fine xs → Pos (ofItems xs)
+fine-pos [] h = tt
+fine-pos (x ∷ xs) h = (h .0 .0, fine-pos xs (h .1))
+
+-- polled and not completed, before the last completion and since; and what waits
+abbrev pub O : Queue Checkpoint → List Held
+O q = ofItems (items (q .old))
+
+abbrev pub F : Queue Checkpoint → List Held
+F q = ofItems (items (q .fresh))
+
+abbrev pub W : Queue Checkpoint → List Held
+W q = ofItems (q .waiting)
+
+-- a checkpoint that was taken, at the consumer's used position cu and with o slots polled before the last completion: while no completion
+-- came since, it holds the used cursor, the slots in flight then, and the avail cursor that many slots on
+abbrev pub CheckOk : ℕ → ℕ → ℕ → ℕ → Mark Checkpoint → Type 0
+CheckOk size comps cu o m =
+    (m .comps ≤ comps)
+    × (m .comps ≡ comps
+    → (m .value .used ≡ pos size cu)
+    × ((m .value .inflight ≡ o + tot (ofItems (items (m .stood))))
+    × (m .value .avail ≡ pos size (cu + m .value .inflight))))
+
+module _ (l : Layout) where
+  abbrev pub size : ℕ
+  size = l .size
+
+  -- `ret`: what is completed and not yet returned, with the slots of each
+  pub record Like (ret : List Used) (w : World) (q : Queue Checkpoint) : Type 0 where
+    -- five positions: the producer's used cursor, the consumer's, the first poll that a rollback may undo, the consumer's avail cursor, the
+    -- producer's
+    pub pu : ℕ
+    pub cu : ℕ
+    pub fa : ℕ
+    pub ca : ℕ
+    pub pa : ℕ
+    pub cu-is : cu ≡ pu + tot (ofUsed ret)
+    pub fa-is : fa ≡ cu + tot (O q)
+    pub ca-is : ca ≡ fa + tot (F q)
+    pub pa-is : pa ≡ ca + tot (W q)
+    pub room : pa + w .prod .free ≡ pu + size
+    pub begun : size ≤ pu
+    -- the records
+    pub p-layout : w .prod .layout ≡ l
+    pub c-layout : w .cons .layout ≡ l
+    pub p-used : w .prod .used ≡ pos size pu
+    pub c-used : w .cons .used ≡ pos size cu
+    pub c-avail : w .cons .avail ≡ pos size ca
+    pub p-avail : w .prod .avail ≡ pos size pa
+    pub inflight : w .cons .inflight ≡ tot (O q) + tot (F q)
+    -- what is lent is whole
+    pub whole : outside l (length (w .ring)) ≡ false
+    pub ids-whole : size ≤ length (w .ids)
+    pub counts-whole : size ≤ length (w .counts)
+    pub held-whole : size ≤ length (w .held)
+    -- the slots
+    pub spelled : Spells size (view size (l .table) (w .ring)) fa (items (q .fresh) ++ q .waiting)
+    pub returned : Returns size (view size (l .table) (w .ring)) pu ret
+    -- each slot has AVAIL of the round in which it was last published or used; USED of the other round where it is not used yet
+    pub rounds : (p : ℕ) → pa ≤ p + size → p < pa → has (view size (l .table) (w .ring) p .flags) AVAIL ≡ round size p
+    pub unused : (p : ℕ) → cu ≤ p → p < pa → has (view size (l .table) (w .ring) p .flags) USED ≡ not (round size p)
+    -- the IDs and the tables
+    pub dones-are : q .done ≡ dones ret
+    pub fine : All Fine (items (q .fresh) ++ q .waiting)
+    pub o-pos : Pos (O q)
+    pub r-pos : Pos (ofUsed ret)
+    pub once :
+        (y : ℕ) → occS y (take (w .prod .height) (w .ids)) + (occ y (W q) + (occ y (O q) + occ y (F q)) + occ y (ofUsed ret)) ≡ one size y
+    pub p-nums : (y : ℕ) → y < size → getD (w .counts) y 0 ≡ slots y (W q) + (slots y (O q) + slots y (F q)) + slots y (ofUsed ret)
+    pub c-nums : (y : ℕ) → y < size → getD (w .held) y 0 ≡ slots y (O q) + slots y (F q)
+    -- the chains that are out are those that wait, are held, or are completed and not returned
+    pub heights : w .prod .height + length (q .out) ≡ size
+    pub out-pos : Pos (ofItems (q .out))
+    pub out-occ : (y : ℕ) → occ y (ofItems (q .out)) ≡ occ y (W q) + (occ y (O q) + occ y (F q)) + occ y (ofUsed ret)
+    pub out-slots : (y : ℕ) → slots y (ofItems (q .out)) ≡ slots y (W q) + (slots y (O q) + slots y (F q)) + slots y (ofUsed ret)
+    pub out-tot : tot (ofItems (q .out)) ≡ tot (W q) + (tot (O q) + tot (F q)) + tot (ofUsed ret)
+    pub promise : (i : ℕ) → q .promised ≡ i ∷ [] → (0 < w .prod .height) × (topOf (w .prod) (w .ids) ≡ i)
+    pub checks : All (CheckOk size (q .comps) cu (tot (O q))) (q .marks)
+
+  abbrev pub Match : World → Queue Checkpoint → Type 0
+  Match w q = (ret : List Used) × Like ret w q
+
+  -- what is owed of a call: its answer is allowed, and the world after it is like the queue after it
+  abbrev pub Good : Queue Checkpoint → Event Checkpoint → World → Type 0
+  Good q e w = Ok size q e × Match w (next q e)
+
+  pub good-by : (q : Queue Checkpoint) (e f : Event Checkpoint) (v w : World) → e ≡ f → v ≡ w → Good q f w → Good q e v
+  good-by q e f v w a b g = subst (λ (x : Event Checkpoint). Good q x v) (sym a) (subst (λ (x : World). Good q f x) (sym b) g)
+
+  module _ (laid-out : badLayout l ≡ false) where
+    pub big : 0 < size
+    big = laid l laid-out .low
+
+    pub small : size ≤ 32768
+    small = laid l laid-out .high
+
+    module _ (ret : List Used) (w : World) (q : Queue Checkpoint) (k : Like ret w q) where
+      -- the positions' order
+      pub free-slots : w .prod .free + tot (ofItems (q .out)) ≡ size
+      free-slots = omega (arith, k .out-tot, k .room, k .pa-is, k .ca-is, k .fa-is, k .cu-is)
+
+      pub free-in : w .prod .free + slotsIn (q .out) ≡ size
+      free-in = omega (arith, free-slots, slots-tot (q .out))
+
+      -- neither record is bad, and nothing that is lent
+      pub p-size : w .prod .layout .size ≡ size
+      p-size = ap (λ (m : Layout). m .size) (k .p-layout)
+
+      pub c-size : w .cons .layout .size ≡ size
+      c-size = ap (λ (m : Layout). m .size) (k .c-layout)
+
+      head-low : (c : RingCursor) (p : ℕ) → c ≡ pos size p → c .head < size
+      head-low c p e = rw e (pos-low size big p)
+
+      pub p-sound : made.badRecord (w .prod) ≡ false
+      p-sound =
+          makes.not-bad (w .prod)
+          (ap badLayout (k .p-layout) ∙ laid-out)
+          (omega (arith, p-size, head-low (w .prod .avail) (k .pa) (k .p-avail)))
+          (omega (arith, p-size, head-low (w .prod .used) (k .pu) (k .p-used)))
+          (omega (arith, p-size, free-slots))
+          (omega (arith, p-size, k .heights))
+
+      pub p-whole : outside (w .prod .layout) (length (w .ring)) ≡ false
+      p-whole = ap (λ (m : Layout). outside m (length (w .ring))) (k .p-layout) ∙ k .whole
+
+      pub p-lent : made.badLent (w .prod) (length (w .ring)) (length (w .ids)) (length (w .counts)) ≡ false
+      p-lent =
+          makes.not-bad-lent (w .prod) (length (w .ring)) (length (w .ids)) (length (w .counts)) p-whole
+          (omega (arith, p-size, k .ids-whole)) (omega (arith, p-size, k .counts-whole))
+
+      pub c-sound : takes.badRecord (w .cons) ≡ false
+      c-sound =
+          polls.not-bad (w .cons)
+          (ap badLayout (k .c-layout) ∙ laid-out)
+          (omega (arith, c-size, head-low (w .cons .avail) (k .ca) (k .c-avail)))
+          (omega (arith, c-size, head-low (w .cons .used) (k .cu) (k .c-used)))
+          (omega (arith, c-size, k .inflight, free-slots, k .out-tot))
+
+      pub c-whole : outside (w .cons .layout) (length (w .ring)) ≡ false
+      c-whole = ap (λ (m : Layout). outside m (length (w .ring))) (k .c-layout) ∙ k .whole
+
+      pub c-lent : takes.badLent (w .cons) (length (w .ring)) (length (w .held)) ≡ false
+      c-lent = polls.not-bad-lent (w .cons) (length (w .ring)) (length (w .held)) c-whole (omega (arith, c-size, k .held-whole))
+
+      -- the producer's next slot holds the round before
+      pub edge : has (view size (l .table) (w .ring) (k .pa) .flags) AVAIL ≡ not (round size (k .pa))
+      edge =
+          let p : ℕ = k .pa - size in
+          let e : k .pa ≡ p + size = omega (arith, k .begun, k .cu-is, k .fa-is, k .ca-is, k .pa-is) in
+          ap (λ (n : ℕ). has (view size (l .table) (w .ring) n .flags) AVAIL) e
+          ∙ ap (λ (d : Descriptor). has (d .flags) AVAIL) (view-around size (l .table) (w .ring) big p)
+          ∙ k .rounds p (omega arith) (omega (arith, big))
+          ∙ sym (ap (λ (n : ℕ). not (round size n)) e ∙ ap not (round-around size big p) ∙ not-not (round size p))
+        where
+          not-not : (b : Bool) → not (not b) ≡ b
+          not-not true = refl
+          not-not false = refl
+
+      -- an answer that changes nothing: the queue after it is the same, but for what next_id promised
+      pub like-look : (a : Look Checkpoint) → ((i : ℕ) → looking q a ≡ i ∷ [] → (0 < w .prod .height) × (topOf (w .prod) (w .ids) ≡ i)) → Like ret w (next q (said.looked a))
+      unfolding next
+      like-look a f =
+          record {
+            pu = k .pu; cu = k .cu; fa = k .fa; ca = k .ca; pa = k .pa;
+            cu-is = k .cu-is; fa-is = k .fa-is; ca-is = k .ca-is; pa-is = k .pa-is; room = k .room; begun = k .begun;
+            p-layout = k .p-layout; c-layout = k .c-layout; p-used = k .p-used; c-used = k .c-used; c-avail = k .c-avail; p-avail = k .p-avail;
+            inflight = k .inflight; whole = k .whole; ids-whole = k .ids-whole; counts-whole = k .counts-whole; held-whole = k .held-whole;
+            spelled = k .spelled; returned = k .returned; rounds = k .rounds; unused = k .unused;
+            dones-are = k .dones-are; fine = k .fine; o-pos = k .o-pos; r-pos = k .r-pos; once = k .once; p-nums = k .p-nums; c-nums = k .c-nums;
+            heights = k .heights; out-pos = k .out-pos; out-occ = k .out-occ; out-slots = k .out-slots; out-tot = k .out-tot;
+            promise = f; checks = k .checks;
+          }
+
+      -- a call that changes nothing of what the invariant speaks of: the shadows, and bytes in no slot
+      pub like-same :
+          (v : World) → v .prod .layout ≡ w .prod .layout → v .prod .avail ≡ w .prod .avail → v .prod .used ≡ w .prod .used → v .prod .free ≡ w .prod .free
+          → v .prod .height ≡ w .prod .height → v .cons .layout ≡ w .cons .layout → v .cons .avail ≡ w .cons .avail → v .cons .used ≡ w .cons .used
+          → v .cons .inflight ≡ w .cons .inflight → v .ids ≡ w .ids → v .counts ≡ w .counts → v .held ≡ w .held → length (v .ring) ≡ length (w .ring)
+          → ((p : ℕ) → view size (l .table) (w .ring) p ≡ view size (l .table) (v .ring) p) → Like ret v q
+      like-same v pl pav pus pf ph cl cav cus ci is cs hs rl vs =
+          let f = view size (l .table) (w .ring) in
+          let g = view size (l .table) (v .ring) in
+          record {
+            pu = k .pu; cu = k .cu; fa = k .fa; ca = k .ca; pa = k .pa;
+            cu-is = k .cu-is; fa-is = k .fa-is; ca-is = k .ca-is; pa-is = k .pa-is; room = omega (arith, k .room, pf); begun = k .begun;
+            p-layout = pl ∙ k .p-layout; c-layout = cl ∙ k .c-layout; p-used = pus ∙ k .p-used; c-used = cus ∙ k .c-used; c-avail = cav ∙ k .c-avail; p-avail = pav ∙ k .p-avail;
+            inflight = ci ∙ k .inflight; whole = ap (outside l) rl ∙ k .whole;
+            ids-whole = omega (arith, k .ids-whole, ap length is); counts-whole = omega (arith, k .counts-whole, ap length cs); held-whole = omega (arith, k .held-whole, ap length hs);
+            spelled = spells-cong size f g (k .fa) (items (q .fresh) ++ q .waiting) (λ p a b. vs p) (k .spelled);
+            returned = returns-cong size f g (k .pu) ret (λ p a b. vs p) (k .r-pos) (k .returned);
+            rounds = λ p a b. ap (λ (d : Descriptor). has (d .flags) AVAIL) (sym (vs p)) ∙ k .rounds p a b;
+            unused = λ p a b. ap (λ (d : Descriptor). has (d .flags) USED) (sym (vs p)) ∙ k .unused p a b;
+            dones-are = k .dones-are; fine = k .fine; o-pos = k .o-pos; r-pos = k .r-pos;
+            once = λ y. ap₂ (λ (h : ℕ) (s : List ℕ). occS y (take h s) + (occ y (W q) + (occ y (O q) + occ y (F q)) + occ y (ofUsed ret))) ph is ∙ k .once y;
+            p-nums = λ y h. ap (λ (t : List ℕ). getD t y 0) cs ∙ k .p-nums y h;
+            c-nums = λ y h. ap (λ (t : List ℕ). getD t y 0) hs ∙ k .c-nums y h;
+            heights = omega (arith, k .heights, ph); out-pos = k .out-pos; out-occ = k .out-occ; out-slots = k .out-slots; out-tot = k .out-tot;
+            promise = λ i e. (omega (arith, k .promise i e .0, ph), ap₂ (λ (h : ℕ) (s : List ℕ). getD s (h - 1) 0) ph is ∙ k .promise i e .1);
+            checks = k .checks;
+          }
