@@ -1,1 +1,4 @@
 pub mod Model
+pub mod Listing
+pub mod Trace
+pub mod Machine
