@@ -2,3 +2,5 @@ pub mod Model
 pub mod Listing
 pub mod Trace
 pub mod Machine
+pub mod Ahead
+pub mod Returned
