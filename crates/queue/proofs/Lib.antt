@@ -4,3 +4,5 @@ pub mod Trace
 pub mod Machine
 pub mod Ahead
 pub mod Returned
+pub mod Kept
+pub mod Reader

@@ -180,6 +180,10 @@ pub one-other : (x y : ℕ) → x ≢ y → one x y ≡ 0
 unfolding one
 one-other x y n = rw (eqb-no x y n)
 
+pub one-low : (x y : ℕ) → one x y ≤ 1
+unfolding one
+one-low x y = on-test (λ b. cond {A = ℕ} b 1 0 ≤ 1) (eqb x y) (λ t. omega arith) (λ t. omega arith)
+
 pub times-append : (y : ℕ) (a b : List ℕ) → times y (a ++ b) ≡ times y a + times y b
 times-append y [] b = omega arith
 times-append y (x ∷ a) b = omega (arith, times-append y a b)
