@@ -6,3 +6,4 @@ pub mod Ahead
 pub mod Returned
 pub mod Kept
 pub mod Reader
+pub mod Literal

@@ -43,7 +43,7 @@ at-left [] m j x a = absurd a
 at-left (y ∷ l) m zero x a = a
 at-left (y ∷ l) m (suc j) x a = at-left l m j x a
 
-at-seam : {A : Type 0} (l : List A) (x : A) (m : List A) → At (l ++ (x ∷ m)) (length l) x
+pub at-seam : {A : Type 0} (l : List A) (x : A) (m : List A) → At (l ++ (x ∷ m)) (length l) x
 at-seam [] x m = refl
 at-seam (y ∷ l) x m = at-seam l x m
 
