@@ -7,3 +7,4 @@ pub mod Returned
 pub mod Kept
 pub mod Reader
 pub mod Literal
+pub mod Example
