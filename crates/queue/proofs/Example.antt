@@ -1,22 +1,21 @@
 -- A history computed: two chains, a rollback, completions out of order. It meets the premise of every theorem, so none is empty.
 -- Assumes nothing.
-use mathlib.Core.Path.{_≡_, refl, sym, ap, _∙_}
-use mathlib.Core.Logic.{_≢_, _⊎_, inl, inr}
-use mathlib.Core.Bool.{Bool, true, false}
-use Prim.Native.Nat.{ℕ, _≤_, _<_}
+use mathlib.Core.Path.{_≡_, refl, ap}
+use mathlib.Core.Logic.{_⊎_, inl, inr}
+use mathlib.Core.Bool.{true, false}
+use Prim.Native.Nat.{ℕ}
 use native.Mathlib.Omega.{arith}
-use mathlib.Core.List.{List, [], _∷_, _++_}
-use lib.ListN.{length}
+use mathlib.Core.List.{[], _∷_, _++_}
 use lib.Dec.{T}
-use Rattle.queue.specs.History.{Chain, Item, Done, Event, History, Poll, slotsIn, items, ids, times, pubs, polls, comps, reclaims, lives, held, out, finished, waiting}
-use Rattle.queue.specs.History.{submit, poll, complete, reclaim, rollback, nextId, other, nexted, peeked, quiet, refused, astray, submitted, polled, completed, reclaimed, marked, rolled, looked}
+use Rattle.queue.specs.History.{Item, Done, Event, History, slotsIn, items, pubs, polls, comps, reclaims, lives, held, out, finished}
+use Rattle.queue.specs.History.{poll, reclaim, rollback, nexted, refused, submitted, polled, completed, reclaimed, marked, rolled, looked}
 use Rattle.queue.specs.Promise.{Undoes, UndoesAll, Asked, Each, Fifo}
-use Rattle.queue.proofs.Model.{Mark, Queue, next, model, Undo, UndoAll, Ok, AllOk}
+use Rattle.queue.proofs.Model.{Mark, next, model, Undo, UndoAll, AllOk}
 use Rattle.queue.proofs.Listing.{All}
 use Rattle.queue.proofs.Trace.{fifo}
-use Rattle.queue.proofs.Ahead.{isPoll, pollCalls, Still, ahead}
-use Rattle.queue.proofs.Returned.{isReclaim, reclaimCalls, returned}
-use Rattle.queue.proofs.Reader.{At, Own, own-completion, once-each, frees}
+use Rattle.queue.proofs.Ahead.{isPoll, Still, ahead}
+use Rattle.queue.proofs.Returned.{isReclaim, returned}
+use Rattle.queue.proofs.Reader.{Own}
 use Rattle.queue.proofs.Literal.{sources, Literally, literal}
 
 -- a chain of one element and one of two, on a ring of four slots

@@ -1,19 +1,19 @@
 -- What is out: the chains that wait, that are held, and that are completed and not yet returned, each once; and which polls were completed.
 -- Assumes nothing.
 use mathlib.Core.Path.{_≡_, refl, sym, ap, _∙_, subst}
-use mathlib.Core.Logic.{_≢_, _⊎_, inl, inr}
+use mathlib.Core.Logic.{_≢_, inl, inr}
 use mathlib.Core.Bool.{Bool, true, false, cond, not}
-use Prim.Native.Nat.{ℕ, zero, suc, _+_, _-_, _≤_, _<_}
+use Prim.Native.Nat.{ℕ, _+_, _-_, _≤_, _<_}
 use native.Mathlib.Omega.{arith}
 use native.Mathlib.Decide.{ℕ-discrete}
 use mathlib.Core.List.{List, [], _∷_, _++_, append-assoc, append-nil}
-use lib.ListN.{length, drop, length-append}
+use lib.ListN.{length, drop}
 use lib.Dec.{T, eqb, eqb→eq, eqb-refl, T-not}
-use Rattle.queue.specs.History.{Chain, Item, Done, Event, History, Poll, slotsOf, slotsIn, items, ids, butLast, without, withoutItem, ofId, times, comps, reclaims, lives, held, out, finished}
+use Rattle.queue.specs.History.{Item, Done, Event, History, Poll, slotsOf, slotsIn, items, ids, butLast, without, withoutItem, ofId, times, reclaims, lives, held, out, finished}
 use Rattle.queue.specs.History.{submitted, polled, completed, reclaimed, marked, rolled, looked}
 use Rattle.queue.specs.Promise.{Has, Unlike}
-use Rattle.queue.proofs.Model.{Queue, start, tail, Member, next, model, Ok, AllOk}
-use Rattle.queue.proofs.Listing.{on-test, All, all-append, all-left, all-right, all-map, all-of, Over, Rising, items-append, ids-append, but-last-rest, one, one-same, one-other, times-cons, times-append, member-left, member-last}
+use Rattle.queue.proofs.Model.{Queue, tail, Member, next, model, Ok, AllOk}
+use Rattle.queue.proofs.Listing.{on-test, All, all-append, all-left, all-right, all-map, items-append, ids-append, but-last-rest, one, one-same, one-other, times-cons, member-left, member-last}
 use Rattle.queue.proofs.Trace.{settled, Link, link}
 
 -- ---- lists of items, polls and completions

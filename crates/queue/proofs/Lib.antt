@@ -5,6 +5,7 @@ pub mod Machine
 pub mod Ahead
 pub mod Returned
 pub mod Kept
+pub mod Undone
 pub mod Reader
 pub mod Literal
 pub mod Example

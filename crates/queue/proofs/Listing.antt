@@ -6,12 +6,11 @@ use mathlib.Core.Bool.{Bool, true, false, cond, not}
 use Prim.Native.Nat.{ℕ, zero, suc, _+_, _-_, _≤_, _<_}
 use native.Mathlib.Nat.{le-trans}
 use native.Mathlib.Omega.{arith}
-use native.Mathlib.Decide.{ℕ-discrete}
-use mathlib.Core.List.{List, [], _∷_, _++_, append-assoc, append-nil}
+use mathlib.Core.List.{List, [], _∷_, _++_}
 use lib.ListN.{length, take, drop, length-append, take-append-drop}
-use lib.Seq.{take-at, drop-at, take-append-add, take-length, drop-length}
+use lib.Seq.{take-at, drop-at, take-append-add, take-length}
 use lib.Dec.{T, eqb, leb, le→leb, eqb→eq, eqb-refl}
-use Rattle.queue.specs.History.{Poll, Item, items, ids, upto, after, butLast, without, times}
+use Rattle.queue.specs.History.{Poll, Item, items, ids, upto, after, butLast, times}
 use Rattle.queue.proofs.Model.{Member}
 
 -- by cases on a test, with what it says

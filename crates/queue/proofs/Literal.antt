@@ -3,21 +3,21 @@
 use mathlib.Core.Path.{_≡_, refl, sym, ap, _∙_}
 use mathlib.Core.Logic.{_≢_}
 use mathlib.Core.Bool.{Bool, true, false, cond, _||_}
-use Prim.Native.Nat.{ℕ, zero, suc, _+_, _-_, _≤_, _<_}
+use Prim.Native.Nat.{ℕ, zero, suc, _-_, _≤_, _<_}
 use native.Mathlib.Omega.{arith}
 use native.Mathlib.Decide.{ℕ-discrete, decLe}
 use mathlib.Core.List.{List, [], _∷_, _++_, append-nil}
 use lib.ListN.{length, take, length-append}
 use lib.Seq.{take-append-le, take-all, length-take-le}
 use lib.Dec.{eqb}
-use Rattle.queue.specs.History.{Item, Done, Call, Look, Event, History, Poll, items, butLast, times, pubs, polls, lives}
+use Rattle.queue.specs.History.{Item, Call, Event, History, Poll, items, butLast, times, pubs, polls, lives}
 use Rattle.queue.specs.History.{submit, poll, complete, reclaim, rollback, nextId, other, nexted, peeked, quiet, refused, astray, submitted, polled, completed, reclaimed, marked, rolled, looked}
 use Rattle.queue.specs.Promise.{Unlike, Each}
-use Rattle.queue.proofs.Model.{Queue, model, OkNo, Ok, AllOk}
+use Rattle.queue.proofs.Model.{model, Ok, AllOk}
 use Rattle.queue.proofs.Listing.{eqb-yes, eqb-no, length-items, one, one-same, one-other, times-cons, times-append}
-use Rattle.queue.proofs.Trace.{Link, link}
+use Rattle.queue.proofs.Trace.{link}
 use Rattle.queue.proofs.Kept.{idsOf, tally-append, times-unlike, Kept, kept}
-use Rattle.queue.proofs.Reader.{At, at-low, at-seam}
+use Rattle.queue.proofs.Reader.{At, at-seam}
 
 -- ---- which publication a poll is of: the latest one that got its ID. The first publication of a history is number 0.
 
@@ -132,7 +132,6 @@ module _ {C : Type 0} where
     alone : Unlike (x .id) later
     alone =
         let k : Kept h (model h) = kept size h ok in
-        let held : List Item = items (model h .old ++ model h .fresh) in
         times-unlike (x .id) later
         (omega (
           arith,
@@ -165,7 +164,6 @@ module _ {C : Type 0} where
   sources-are size (reclaimed d ∷ h) o = sources-are size h (o .0)
   sources-are size (marked c ∷ h) o = sources-are size h (o .0)
   sources-are size (rolled c js ∷ h) o =
-      let n : ℕ = length (lives h) in
       ap (butLast (length js)) (sources-are size h (o .0))
       ∙ ap (λ (k : ℕ). take (k - length js) (upTo (length (lives h)))) (length-upTo (length (lives h)))
       ∙ take-upTo (length (lives h)) (length (lives h) - length js) (omega arith)

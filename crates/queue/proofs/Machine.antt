@@ -80,3 +80,7 @@ module _ {C : Type 0} where
       -- DEMAND 3 of this machine: "completions meet their own submissions", whatever calls it is given, if what is asked of them holds
       pub machine-fifo : (cs : List (M .Call)) → Each (Asked (terms .Premise)) (historyOf cs) → Fifo size (historyOf cs)
       machine-fifo cs a = fifo size (historyOf cs) (matched cs a .0)
+
+      -- and whatever follows of a history that the queue allows
+      pub machine-ok : (cs : List (M .Call)) → Each (Asked (terms .Premise)) (historyOf cs) → AllOk size (historyOf cs)
+      machine-ok cs a = matched cs a .0

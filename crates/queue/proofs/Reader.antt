@@ -1,19 +1,19 @@
 -- For the reader who knows nothing of rings: each completion that comes back is of one submission, its own, and frees that one's slots.
 -- Assumes nothing.
 use mathlib.Core.Path.{_≡_, refl, sym, ap, _∙_, subst}
-use mathlib.Core.Logic.{_≢_, _⊎_, inl, inr}
+use mathlib.Core.Logic.{_≢_, inl, inr}
 use Prim.Native.Nat.{ℕ, zero, suc, _+_, _≤_, _<_}
 use native.Mathlib.Nat.{le-of-suc-le-suc}
 use native.Mathlib.Omega.{arith}
 use native.Mathlib.Decide.{ℕ-discrete}
-use mathlib.Core.List.{List, [], _∷_, _++_, append-assoc}
-use lib.ListN.{length, drop, length-append}
+use mathlib.Core.List.{List, [], _∷_, _++_}
+use lib.ListN.{length, drop}
 use lib.Seq.{drop-at}
-use Rattle.queue.specs.History.{Item, Done, Event, History, Poll, slotsOf, slotsIn, items, ids, withoutItem, times, pubs, comps, reclaims, lives, held, out, finished, waiting}
+use Rattle.queue.specs.History.{Item, Done, History, Poll, slotsOf, slotsIn, items, ids, times, pubs, comps, reclaims, lives, held, out, finished, waiting}
 use Rattle.queue.specs.History.{submitted, reclaimed}
 use Rattle.queue.specs.Promise.{Unlike}
-use Rattle.queue.proofs.Model.{Queue, Member, model, AllOk}
-use Rattle.queue.proofs.Listing.{All, all-left, all-right, Over, Rising, items-append, ids-append, length-ids, one, one-same, one-other, one-low, times-cons, member-left}
+use Rattle.queue.proofs.Model.{Member, model, AllOk}
+use Rattle.queue.proofs.Listing.{All, Over, Rising, ids-append, length-ids, one, one-same, one-other, one-low, times-cons, member-left}
 use Rattle.queue.proofs.Trace.{settled, Link, link, waiting-is}
 use Rattle.queue.proofs.Kept.{dids, nos, idsOf, dids-append, nos-append, unlike-of, slots-less, these, front-of, Served, served, Kept, kept}
 
@@ -197,7 +197,6 @@ module _ {C : Type 0} where
     pub once-each : (i j p : ℕ) → Own h i p → Own h j p → i ≡ j
     once-each i j p a b =
         let same : a .poll ≡ b .poll = at-same (lives h) p (a .poll) (b .poll) (a .stands) (b .stands) in
-        let n : ℕ = a .poll .no in
         let few : times (a .poll .no) (nos (finished h)) ≤ 1 =
         omega (
           arith,

@@ -2,15 +2,15 @@
 -- Assumes nothing.
 use mathlib.Core.Path.{_≡_, refl, sym, ap, _∙_}
 use mathlib.Core.Bool.{Bool, true, false, cond}
-use Prim.Native.Nat.{ℕ, zero, suc, _+_, _≤_, _<_}
+use Prim.Native.Nat.{ℕ, suc, _≤_, _<_}
 use native.Mathlib.Omega.{arith}
 use mathlib.Core.List.{List, [], _∷_, _++_, append-assoc, append-nil, append-cancel-left}
 use lib.ListN.{length, drop}
 use lib.Seq.{drop-length}
 use lib.Dec.{T}
-use Rattle.queue.specs.History.{Chain, Item, Done, Call, Look, Event, History, comps, reclaims}
+use Rattle.queue.specs.History.{Done, Call, Look, Event, History, comps, reclaims}
 use Rattle.queue.specs.History.{submit, poll, complete, reclaim, rollback, nextId, other, nexted, peeked, quiet, refused, astray, submitted, polled, completed, reclaimed, marked, rolled, looked}
-use Rattle.queue.specs.Promise.{RightNo, Right, Fifo}
+use Rattle.queue.specs.Promise.{Right, Fifo}
 use Rattle.queue.proofs.Ahead.{next-is, never-empty}
 
 module _ {C : Type 0} where

@@ -2,16 +2,16 @@
 -- Assumes nothing.
 use mathlib.Core.Path.{_≡_, refl, sym, ap, _∙_, subst}
 use mathlib.Core.Logic.{_⊎_, inl, inr}
-use mathlib.Core.Bool.{Bool, true, false}
-use Prim.Native.Nat.{ℕ, zero, suc, _+_, _-_, _≤_, _<_}
+use mathlib.Core.Bool.{true, false}
+use Prim.Native.Nat.{ℕ, suc, _-_, _≤_}
 use native.Mathlib.Nat.{le-refl}
 use native.Mathlib.Omega.{arith}
 use mathlib.Core.List.{List, [], _∷_, _++_, append-assoc, append-nil, append-cancel-left}
-use lib.ListN.{length, take, drop, length-append}
+use lib.ListN.{length, drop, length-append}
 use lib.Seq.{drop-at}
-use Rattle.queue.specs.History.{Chain, Item, Done, Call, Look, Event, History, Poll, items, ids, upto, after, butLast, without, times, pubs, polls, comps, reclaims, lives, held, out, promised, waiting}
+use Rattle.queue.specs.History.{Item, Done, Call, Look, Event, History, Poll, items, ids, upto, after, butLast, without, times, pubs, polls, comps, reclaims, lives, held, out, promised, waiting}
 use Rattle.queue.specs.History.{submit, poll, complete, reclaim, rollback, nextId, other, nexted, peeked, quiet, refused, astray, submitted, polled, completed, reclaimed, marked, rolled, looked}
-use Rattle.queue.specs.Promise.{Has, Unlike, Undoes, UndoesAll, RightNo, RightLook, Right, Fifo}
+use Rattle.queue.specs.Promise.{Undoes, UndoesAll, RightNo, RightLook, Right, Fifo}
 use Rattle.queue.proofs.Model.{Mark, Queue, start, tail, Member, markOf, looking, next, model, Undo, UndoAll, OkNo, OkLook, Ok, AllOk}
 use Rattle.queue.proofs.Listing.{All, all-append, all-map, all-of, Under, Rising, under-mono, rising-snoc, rising-take, items-append, length-items, upto-under, after-under, but-last-rest, but-last-append, all-but-last, named-fit, member-left, member-last, member-snoc, nil-of}
 
@@ -321,7 +321,7 @@ module _ {C : Type 0} where
     at-polls : polls before ≡ model before .polls
     at-polls = link size before ok-before .polls-is
 
-    comps-now : comps h ≡ comps before → model before .comps ≡ model h .comps
+    pub comps-now : comps h ≡ comps before → model before .comps ≡ model h .comps
     comps-now e = sym (link size before ok-before .comps-is) ∙ ap length (sym e) ∙ link size h ok .comps-is
 
     module _ (same : model before .comps ≡ model h .comps) where
@@ -337,13 +337,13 @@ module _ {C : Type 0} where
       settled-then : settled h ≡ settled before
       settled-then = ap settled took ∙ same-settled since (marked c ∷ before) between ∙ settled-marked c before
 
-      settled-under : Under (polls before) (settled h)
+      pub settled-under : Under (polls before) (settled h)
       settled-under =
           let low : model h .since ≤ model before .polls =
           all-of (MarkOk (model h .comps) (model h .since)) (markOf (model before) c) (model h .marks) (mark-in h since before c took) (link size h ok .marks-ok) .1 same in
           under-mono (rw at-polls low) (settled h) (link size h ok .under)
 
-      same-after : after (polls before) (lives h) ≡ after (model before .polls) (model h .fresh)
+      pub same-after : after (polls before) (lives h) ≡ after (model before .polls) (model h .fresh)
       same-after =
           ap (after (polls before)) (link size h ok .stand) ∙ after-under (polls before) (settled h) (model h .fresh) settled-under
           ∙ ap (λ (k : ℕ). after k (model h .fresh)) at-polls
@@ -468,3 +468,46 @@ module _ {C : Type 0} where
   pub fifo : (size : ℕ) (h : History C) → AllOk size h → Fifo size h
   fifo size [] o = tt
   fifo size (e ∷ h) o = (fifo size h (o .0), right size h (o .0) e (o .1))
+
+  -- ---- and back: what the promise allows, the queue allows; so whatever follows from the queue follows from the promise alone
+
+  module _ (size : ℕ) (h : History C) (ok : AllOk size h) where
+    k : Link h (model h)
+    k = link size h ok
+
+    -- what waits, and what is done, by what comes after those polled and those returned
+    waits : (w : List Item) → pubs h ≡ items (lives h) ++ w → model h .waiting ≡ w
+    waits w e = append-cancel-left (items (lives h)) (model h .waiting) w (sym (k .published) ∙ e)
+
+    dones : (w : List Done) → comps h ≡ reclaims h ++ w → model h .done ≡ w
+    dones w e = append-cancel-left (reclaims h) (model h .done) w (sym (k .given) ∙ e)
+
+    ok-no : (c : Call C) (n : ℕ) → RightNo size h c n → OkNo size (model h) c n
+    ok-no (submit c) n r = rw (← k .out-is) r
+    ok-no poll n r = (r .0, waits [] (r .1 ∙ sym (append-nil (items (lives h)))))
+    ok-no (complete d) n r = (r .0, rw (← k .held-is) (r .1))
+    ok-no reclaim n r = (r .0, dones [] (r .1 ∙ sym (append-nil (reclaims h))))
+    ok-no (rollback c js) n r = (r .0, λ a. r .1 (undoes-all-of size h ok c js a))
+    ok-no nextId n r = rw (← k .out-is) r
+    ok-no other n r = r
+
+    ok-look : (z : Look C) → RightLook size h z → OkLook size (model h) z
+    ok-look (nexted i) r = rw (← k .out-is) r
+    ok-look (peeked b) r = rw (← waiting-is size h ok) r
+    ok-look quiet r = tt
+    ok-look (refused c true n) r = ok-no c n r
+    ok-look (refused c false n) r = r
+    ok-look (astray n) r = tt
+
+    ok-of : (e : Event C) → Right size h e → Ok size (model h) e
+    ok-of (submitted x) r = rw (← k .out-is, ← k .promised-is) r
+    ok-of (polled x) r = (r .0, waits (x ∷ r .0) (r .1))
+    ok-of (completed d) r = rw (← k .held-is) r
+    ok-of (reclaimed d) r = (r .0, dones (d ∷ r .0) (r .1))
+    ok-of (marked c) r = tt
+    ok-of (rolled c js) r = undo-of size h ok c js r
+    ok-of (looked z) r = ok-look z r
+
+  pub allowed : (size : ℕ) (h : History C) → Fifo size h → AllOk size h
+  allowed size [] f = tt
+  allowed size (e ∷ h) f = let ok : AllOk size h = allowed size h (f .0) in (ok, ok-of size h ok e (f .1))
