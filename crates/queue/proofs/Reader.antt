@@ -2,6 +2,8 @@
 -- Assumes nothing.
 use mathlib.Core.Path.{_≡_, refl, sym, ap, _∙_, subst}
 use mathlib.Core.Logic.{_≢_, inl, inr}
+use mathlib.Core.Bool.{Bool, true, false, cond}
+use lib.Dec.{eqb}
 use Prim.Native.Nat.{ℕ, zero, suc, _+_, _≤_, _<_}
 use native.Mathlib.Nat.{le-of-suc-le-suc}
 use native.Mathlib.Omega.{arith}
@@ -9,11 +11,11 @@ use native.Mathlib.Decide.{ℕ-discrete}
 use mathlib.Core.List.{List, [], _∷_, _++_}
 use lib.ListN.{length, drop}
 use lib.Seq.{drop-at}
-use Rattle.queue.specs.History.{Item, Done, History, Poll, slotsOf, slotsIn, items, ids, times, pubs, comps, reclaims, lives, held, out, finished, waiting}
-use Rattle.queue.specs.History.{submitted, reclaimed}
+use Rattle.queue.specs.History.{Item, Done, History, Poll, slotsOf, slotsIn, items, ids, withoutItem, times, pubs, comps, reclaims, lives, held, out, finished, waiting}
+use Rattle.queue.specs.History.{submitted, polled, completed, reclaimed, marked, rolled, looked}
 use Rattle.queue.specs.Promise.{Unlike}
 use Rattle.queue.proofs.Model.{Member, model, AllOk}
-use Rattle.queue.proofs.Listing.{All, Over, Rising, ids-append, length-ids, one, one-same, one-other, one-low, times-cons, member-left}
+use Rattle.queue.proofs.Listing.{All, all-append, Over, Rising, ids-append, length-ids, one, one-same, one-other, one-low, times-cons, member-left}
 use Rattle.queue.proofs.Trace.{settled, Link, link, waiting-is}
 use Rattle.queue.proofs.Kept.{dids, nos, idsOf, dids-append, nos-append, unlike-of, slots-less, these, front-of, Served, served, Kept, kept}
 
@@ -117,6 +119,27 @@ unlike-left x (i ∷ a) b u = (u .0, unlike-left x a b (u .1))
 unlike-right : (x : ℕ) (a b : List Item) → Unlike x (a ++ b) → Unlike x b
 unlike-right x [] b u = u
 unlike-right x (i ∷ a) b u = unlike-right x a b (u .1)
+
+-- every chain of a list has a slot or more
+abbrev Slotted : List Item → Type 0
+Slotted l = All (λ (i : Item). 0 < slotsOf (i .chain)) l
+
+slotted-less : (x : ℕ) (l : List Item) → Slotted l → Slotted (withoutItem x l) × (slotsIn (withoutItem x l) ≤ slotsIn l)
+slotted-less x [] a = (tt, omega arith)
+slotted-less x (i ∷ l) a = go (eqb (i .id) x) (slotted-less x l (a .1))
+  where
+    go : (b : Bool) → Slotted (withoutItem x l) × (slotsIn (withoutItem x l) ≤ slotsIn l)
+        → Slotted (cond b l (i ∷ withoutItem x l)) × (slotsIn (cond b l (i ∷ withoutItem x l)) ≤ slotsIn (i ∷ l))
+    go true r = (a .1, omega arith)
+    go false r = ((a .0, r .0), omega (arith, r .1))
+
+slots-append : (a b : List Item) → slotsIn (a ++ b) ≡ slotsIn a + slotsIn b
+slots-append [] b = omega arith
+slots-append (i ∷ a) b = omega (arith, slots-append a b)
+
+slotted-length : (l : List Item) → Slotted l → length l ≤ slotsIn l
+slotted-length [] a = omega arith
+slotted-length (i ∷ l) a = omega (arith, a .0, slotted-length l (a .1))
 
 module _ {C : Type 0} where
   -- the j-th completion that poll_used returned is of the p-th submission
@@ -261,3 +284,29 @@ module _ {C : Type 0} where
       let e : out h ≡ model h .out = link size h (o .0) .out-is in
       let m : Member (z .0 .item) (model h .out) = subst (λ (ps : List Poll). All (λ (i : Item). Member i (model h .out)) (these ps (model h))) (z .2) (k .inside) .0 in
       slots-less (d .id) x (out h) (ap (λ (i : Item). i .id) (sym is) ∙ z .3) (rw e (subst (λ (i : Item). Member i (model h .out)) is m)) (outs-once size h (o .0) (d .id))
+
+  fit : (size : ℕ) (h : History C) → AllOk size h → Slotted (out h) × (slotsIn (out h) ≤ size)
+  unfolding out
+  fit size [] o = (tt, omega arith)
+  fit size (submitted x ∷ h) o =
+      let ih : Slotted (out h) × (slotsIn (out h) ≤ size) = fit size h (o .0) in
+      let e : out h ≡ model h .out = link size h (o .0) .out-is in (
+        all-append (λ (i : Item). 0 < slotsOf (i .chain)) (out h) (x ∷ []) (ih .0) (o .1 .1 .1 .0, tt),
+        omega (arith, slots-append (out h) (x ∷ []), ap slotsIn e, o .1 .1 .1 .1 .0),
+      )
+  fit size (polled x ∷ h) o = fit size h (o .0)
+  fit size (completed d ∷ h) o = fit size h (o .0)
+  fit size (reclaimed d ∷ h) o =
+      let ih : Slotted (out h) × (slotsIn (out h) ≤ size) = fit size h (o .0) in
+      let r : Slotted (withoutItem (d .id) (out h)) × (slotsIn (withoutItem (d .id) (out h)) ≤ slotsIn (out h)) = slotted-less (d .id) (out h) (ih .0) in
+      (r .0, omega (arith, r .1, ih .1))
+  fit size (marked c ∷ h) o = fit size h (o .0)
+  fit size (rolled c js ∷ h) o = fit size h (o .0)
+  fit size (looked l ∷ h) o = fit size h (o .0)
+
+  -- never more slots are out than the ring has, nor more chains than slots: a submission that finds slots finds an ID ("never 4 or 5")
+  pub slots-fit : (size : ℕ) (h : History C) → AllOk size h → slotsIn (out h) ≤ size
+  slots-fit size h o = fit size h o .1
+
+  pub chains-fit : (size : ℕ) (h : History C) → AllOk size h → length (out h) ≤ slotsIn (out h)
+  chains-fit size h o = slotted-length (out h) (fit size h o .0)
