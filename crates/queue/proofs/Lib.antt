@@ -1,2 +1,11 @@
 pub mod Model
 pub mod Listing
+pub mod Trace
+pub mod Machine
+pub mod Ahead
+pub mod Returned
+pub mod Kept
+pub mod Undone
+pub mod Reader
+pub mod Literal
+pub mod Example

@@ -6,12 +6,11 @@ use mathlib.Core.Bool.{Bool, true, false, cond, not}
 use Prim.Native.Nat.{ℕ, zero, suc, _+_, _-_, _≤_, _<_}
 use native.Mathlib.Nat.{le-trans}
 use native.Mathlib.Omega.{arith}
-use native.Mathlib.Decide.{ℕ-discrete}
-use mathlib.Core.List.{List, [], _∷_, _++_, append-assoc, append-nil}
+use mathlib.Core.List.{List, [], _∷_, _++_}
 use lib.ListN.{length, take, drop, length-append, take-append-drop}
-use lib.Seq.{take-at, drop-at, take-append-add, take-length, drop-length}
+use lib.Seq.{take-at, drop-at, take-append-add, take-length}
 use lib.Dec.{T, eqb, leb, le→leb, eqb→eq, eqb-refl}
-use Rattle.queue.specs.History.{Poll, Item, items, ids, upto, after, butLast, without, times}
+use Rattle.queue.specs.History.{Poll, Item, items, ids, upto, after, butLast, times}
 use Rattle.queue.proofs.Model.{Member}
 
 -- by cases on a test, with what it says
@@ -60,6 +59,29 @@ pub all-of : {A : Type 0} (P : A → Type 0) (x : A) (xs : List A) → Member x 
 all-of P x [] m h = absurd m
 all-of P x (y ∷ xs) (inl e) h = subst P e (h .0)
 all-of P x (y ∷ xs) (inr m) h = all-of P x xs m (h .1)
+
+pub member-left : {A : Type 0} (x : A) (xs ys : List A) → Member x xs → Member x (xs ++ ys)
+member-left x [] ys m = absurd m
+member-left x (y ∷ xs) ys (inl e) = inl e
+member-left x (y ∷ xs) ys (inr m) = inr (member-left x xs ys m)
+
+pub member-last : {A : Type 0} (x : A) (xs : List A) → Member x (xs ++ (x ∷ []))
+member-last x [] = inl refl
+member-last x (y ∷ xs) = inr (member-last x xs)
+
+pub member-snoc : {A : Type 0} (x : A) (xs : List A) (y : A) → Member x (xs ++ (y ∷ [])) → Member x xs ⊎ (y ≡ x)
+member-snoc x [] y (inl e) = inr e
+member-snoc x [] y (inr m) = absurd m
+member-snoc x (z ∷ xs) y (inl e) = inl (inl e)
+member-snoc x (z ∷ xs) y (inr m) = go (member-snoc x xs y m)
+  where
+    go : Member x xs ⊎ (y ≡ x) → Member x (z ∷ xs) ⊎ (y ≡ x)
+    go (inl k) = inl (inr k)
+    go (inr e) = inr e
+
+pub nil-of : {A : Type 0} (l : List A) → length l ≡ 0 → l ≡ []
+nil-of [] e = refl
+nil-of (x ∷ l) e = absurd (omega arith)
 
 -- ---- polls by their numbers
 
@@ -156,6 +178,10 @@ one-same x = rw (eqb-yes x)
 pub one-other : (x y : ℕ) → x ≢ y → one x y ≡ 0
 unfolding one
 one-other x y n = rw (eqb-no x y n)
+
+pub one-low : (x y : ℕ) → one x y ≤ 1
+unfolding one
+one-low x y = on-test (λ b. cond {A = ℕ} b 1 0 ≤ 1) (eqb x y) (λ t. omega arith) (λ t. omega arith)
 
 pub times-append : (y : ℕ) (a b : List ℕ) → times y (a ++ b) ≡ times y a + times y b
 times-append y [] b = omega arith

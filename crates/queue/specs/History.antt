@@ -99,6 +99,11 @@ abbrev pub without : ℕ → List Poll → List Poll
 without x [] = []
 without x (p ∷ ps) = cond (eqb (p .item .id) x) ps (p ∷ without x ps)
 
+-- the one of that ID, if there is one
+abbrev pub ofId : ℕ → List Poll → List Poll
+ofId x [] = []
+ofId x (p ∷ ps) = cond (eqb (p .item .id) x) (p ∷ []) (ofId x ps)
+
 abbrev pub withoutItem : ℕ → List Item → List Item
 withoutItem x [] = []
 withoutItem x (i ∷ is) = cond (eqb (i .id) x) is (i ∷ withoutItem x is)
@@ -177,6 +182,17 @@ module _ {C : Type 0} where
   held (marked c ∷ h) = held h
   held (rolled c js ∷ h) = butLast (length js) (held h)
   held (looked l ∷ h) = held h
+
+  -- the polls that were completed, in the order of their completions: a completion is of the held poll of its ID
+  unfoldable pub finished : History C → List Poll
+  finished [] = []
+  finished (submitted x ∷ h) = finished h
+  finished (polled x ∷ h) = finished h
+  finished (completed d ∷ h) = finished h ++ ofId (d .id) (held h)
+  finished (reclaimed d ∷ h) = finished h
+  finished (marked c ∷ h) = finished h
+  finished (rolled c js ∷ h) = finished h
+  finished (looked l ∷ h) = finished h
 
   -- the chains that are out: published, and their completion not yet returned by poll_used
   unfoldable pub out : History C → List Item

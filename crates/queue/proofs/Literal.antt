@@ -1,0 +1,215 @@
+-- The sentence word for word, by numbers of publications: a poll is of the oldest one whose polls, if any, were all rolled back.
+-- Assumes nothing.
+use mathlib.Core.Path.{_≡_, refl, sym, ap, _∙_}
+use mathlib.Core.Logic.{_≢_}
+use mathlib.Core.Bool.{Bool, true, false, cond, _||_}
+use Prim.Native.Nat.{ℕ, zero, suc, _-_, _≤_, _<_}
+use native.Mathlib.Omega.{arith}
+use native.Mathlib.Decide.{ℕ-discrete, decLe}
+use mathlib.Core.List.{List, [], _∷_, _++_, append-nil}
+use lib.ListN.{length, take, length-append}
+use lib.Seq.{take-append-le, take-all, length-take-le}
+use lib.Dec.{eqb}
+use Rattle.queue.specs.History.{Item, Call, Event, History, Poll, items, butLast, times, pubs, polls, lives}
+use Rattle.queue.specs.History.{submit, poll, complete, reclaim, rollback, nextId, other, nexted, peeked, quiet, refused, astray, submitted, polled, completed, reclaimed, marked, rolled, looked}
+use Rattle.queue.specs.Promise.{Unlike, Each}
+use Rattle.queue.proofs.Model.{model, Ok, AllOk}
+use Rattle.queue.proofs.Listing.{eqb-yes, eqb-no, length-items, one, one-same, one-other, times-cons, times-append}
+use Rattle.queue.proofs.Trace.{link}
+use Rattle.queue.proofs.Kept.{idsOf, tally-append, times-unlike, Kept, kept}
+use Rattle.queue.proofs.Reader.{At, at-seam}
+
+-- ---- which publication a poll is of: the latest one that got its ID. The first publication of a history is number 0.
+
+abbrev pub hasb : ℕ → List Item → Bool
+hasb x [] = false
+hasb x (y ∷ ys) = eqb (y .id) x || hasb x ys
+
+abbrev pub latest : ℕ → List Item → ℕ
+latest x [] = 0
+latest x (y ∷ ys) = cond (hasb x ys) (suc (latest x ys)) 0
+
+module _ {C : Type 0} where
+  -- the publications that the standing polls are of
+  unfoldable pub sources : History C → List ℕ
+  sources [] = []
+  sources (submitted x ∷ h) = sources h
+  sources (polled x ∷ h) = sources h ++ (latest (x .id) (pubs h) ∷ [])
+  sources (completed d ∷ h) = sources h
+  sources (reclaimed d ∷ h) = sources h
+  sources (marked c ∷ h) = sources h
+  sources (rolled c js ∷ h) = butLast (length js) (sources h)
+  sources (looked l ∷ h) = sources h
+
+  -- publication j has a poll that was not rolled back
+  abbrev pub Stands : History C → ℕ → Type 0
+  Stands h j = 0 < times j (sources h)
+
+  -- a poll that was refused though all that it was handed was good
+  abbrev pub LiterallyNo : History C → Call C → Bool → ℕ → Type 0
+  LiterallyNo h (submit c) good n = Unit
+  LiterallyNo h poll true n = (n ≡ 3) × ((i : ℕ) → i < length (pubs h) → Stands h i)
+  LiterallyNo h poll false n = Unit
+  LiterallyNo h (complete d) good n = Unit
+  LiterallyNo h reclaim good n = Unit
+  LiterallyNo h (rollback c js) good n = Unit
+  LiterallyNo h nextId good n = Unit
+  LiterallyNo h other good n = Unit
+
+  -- "A poll returns the oldest published chain whose polls, if any, were all rolled back": its publication gave this very chain, no poll
+  -- of it stands, and of each older one a poll does. "It blocks only when none waits": of each publication a poll stands.
+  abbrev pub Literally : History C → Event C → Type 0
+  Literally h (submitted x) = Unit
+  Literally h (polled x) =
+      At (pubs h) (latest (x .id) (pubs h)) x × ((Stands h (latest (x .id) (pubs h)) → ⊥) × ((i : ℕ) → i < latest (x .id) (pubs h) → Stands h i))
+  Literally h (completed d) = Unit
+  Literally h (reclaimed d) = Unit
+  Literally h (marked c) = Unit
+  Literally h (rolled c js) = Unit
+  Literally h (looked (nexted i)) = Unit
+  Literally h (looked (peeked b)) = Unit
+  Literally h (looked quiet) = Unit
+  Literally h (looked (refused c good n)) = LiterallyNo h c good n
+  Literally h (looked (astray n)) = Unit
+
+-- ---- the first n numbers
+
+abbrev upTo : ℕ → List ℕ
+upTo zero = []
+upTo (suc n) = upTo n ++ (n ∷ [])
+
+length-upTo : (n : ℕ) → length (upTo n) ≡ n
+length-upTo zero = refl
+length-upTo (suc n) = length-append (upTo n) (n ∷ []) ∙ omega (arith, length-upTo n)
+
+take-upTo : (n m : ℕ) → m ≤ n → take m (upTo n) ≡ upTo m
+take-upTo zero zero l = refl
+take-upTo zero (suc m) l = absurd (omega arith)
+take-upTo (suc n) m l = go (decLe m n) (λ k. take-upTo n m k)
+  where
+    go : Dec (m ≤ n) → (m ≤ n → take m (upTo n) ≡ upTo m) → take m (upTo n ++ (n ∷ [])) ≡ upTo m
+    go (yes k) f = take-append-le m (upTo n) (n ∷ []) (omega (arith, length-upTo n)) ∙ f k
+    go (no k) f = let e : m ≡ suc n = omega arith in rw e (take-all (suc n) (upTo (suc n)) (omega (arith, length-upTo (suc n))))
+
+upTo-none : (n y : ℕ) → n ≤ y → times y (upTo n) ≡ 0
+upTo-none zero y l = refl
+upTo-none (suc n) y l =
+    let a : n ≢ y = λ e. omega arith in
+    omega (arith, times-append y (upTo n) (n ∷ []), times-cons y n [], one-other n y a, upTo-none n y (omega arith))
+
+upTo-some : (n y : ℕ) → y < n → 0 < times y (upTo n)
+upTo-some zero y l = absurd (omega arith)
+upTo-some (suc n) y l = go (ℕ-discrete n y) (λ k. upTo-some n y k)
+  where
+    go : Dec (n ≡ y) → (y < n → 0 < times y (upTo n)) → 0 < times y (upTo n ++ (n ∷ []))
+    go (yes e) f = let s : one n y ≡ 1 = rw e (one-same y) in omega (arith, times-append y (upTo n) (n ∷ []), times-cons y n [])
+    go (no e) f = omega (arith, times-append y (upTo n) (n ∷ []), f (omega arith))
+
+-- ---- the latest of an ID
+
+hasb-no : (x : ℕ) (ys : List Item) → Unlike x ys → hasb x ys ≡ false
+hasb-no x [] u = refl
+hasb-no x (y ∷ ys) u = rw (eqb-no (y .id) x (u .0), hasb-no x ys (u .1))
+
+hasb-yes : (xs : List Item) (y : Item) (ys : List Item) → hasb (y .id) (xs ++ (y ∷ ys)) ≡ true
+hasb-yes [] y ys = rw (eqb-yes (y .id))
+hasb-yes (x ∷ xs) y ys = rw (hasb-yes xs y ys) (or-true (eqb (x .id) (y .id)))
+  where
+    or-true : (b : Bool) → (b || true) ≡ true
+    or-true true = refl
+    or-true false = refl
+
+latest-is : (xs : List Item) (y : Item) (ys : List Item) → Unlike (y .id) ys → latest (y .id) (xs ++ (y ∷ ys)) ≡ length xs
+latest-is [] y ys u = rw (hasb-no (y .id) ys u)
+latest-is (x ∷ xs) y ys u = rw (hasb-yes xs y ys) (ap suc (latest-is xs y ys u))
+
+module _ {C : Type 0} where
+  -- the chain that waits first is of the publication after those that the standing polls are of
+  module _ (size : ℕ) (h : History C) (ok : AllOk size h) (x : Item) (later : List Item) (first : model h .waiting ≡ x ∷ later) where
+    whole : pubs h ≡ items (lives h) ++ (x ∷ later)
+    whole = link size h ok .published ∙ ap (λ (w : List Item). items (lives h) ++ w) first
+
+    alone : Unlike (x .id) later
+    alone =
+        let k : Kept h (model h) = kept size h ok in
+        times-unlike (x .id) later
+        (omega (
+          arith,
+          k .apart (x .id),
+          k .whole (x .id),
+          tally-append (x .id) (items (k .pending)) (items (model h .old ++ model h .fresh) ++ model h .waiting),
+          tally-append (x .id) (items (model h .old ++ model h .fresh)) (model h .waiting),
+          ap (λ (w : List Item). times (x .id) (idsOf w)) first,
+          times-cons (x .id) (x .id) (idsOf later),
+          one-same (x .id),
+        ))
+
+    source-is : latest (x .id) (pubs h) ≡ length (lives h)
+    source-is = ap (latest (x .id)) whole ∙ latest-is (items (lives h)) x later alone ∙ length-items (lives h)
+
+    source-at : At (pubs h) (latest (x .id) (pubs h)) x
+    source-at = rw (source-is, ← length-items (lives h), whole) (at-seam (items (lives h)) x later)
+
+  -- the standing polls are of the first publications, in order and each once
+  sources-are : (size : ℕ) (h : History C) → AllOk size h → sources h ≡ upTo (length (lives h))
+  unfolding sources lives
+  sources-are size [] o = refl
+  sources-are size (submitted x ∷ h) o = sources-are size h (o .0)
+  sources-are size (polled x ∷ h) o =
+      let p : Poll = record { no = suc (polls h); item = x } in
+      let more : suc (length (lives h)) ≡ length (lives h ++ (p ∷ [])) = omega (arith, length-append (lives h) (p ∷ [])) in
+      ap (λ (z : List ℕ). z ++ (latest (x .id) (pubs h) ∷ [])) (sources-are size h (o .0))
+      ∙ ap (λ (k : ℕ). upTo (length (lives h)) ++ (k ∷ [])) (source-is size h (o .0) x (o .1 .0) (o .1 .1)) ∙ ap upTo more
+  sources-are size (completed d ∷ h) o = sources-are size h (o .0)
+  sources-are size (reclaimed d ∷ h) o = sources-are size h (o .0)
+  sources-are size (marked c ∷ h) o = sources-are size h (o .0)
+  sources-are size (rolled c js ∷ h) o =
+      ap (butLast (length js)) (sources-are size h (o .0))
+      ∙ ap (λ (k : ℕ). take (k - length js) (upTo (length (lives h)))) (length-upTo (length (lives h)))
+      ∙ take-upTo (length (lives h)) (length (lives h) - length js) (omega arith)
+      ∙ ap upTo (sym (length-take-le (length (lives h) - length js) (lives h) (omega arith)))
+  sources-are size (looked l ∷ h) o = sources-are size h (o .0)
+
+  module _ (size : ℕ) (h : History C) (ok : AllOk size h) where
+    stands-low : (i : ℕ) → i < length (lives h) → Stands h i
+    stands-low i l = rw (sources-are size h ok) (upTo-some (length (lives h)) i l)
+
+    literal-no : (c : Call C) (good : Bool) (n : ℕ) → Ok size (model h) (looked (refused c good n)) → LiterallyNo h c good n
+    literal-no (submit c) good n o = tt
+    literal-no poll true n o =
+        let all : pubs h ≡ items (lives h) = link size h ok .published ∙ ap (λ (w : List Item). items (lives h) ++ w) (o .1) ∙ append-nil (items (lives h)) in
+        (o .0, λ i b. stands-low i (omega (arith, ap length all, length-items (lives h))))
+    literal-no poll false n o = tt
+    literal-no (complete d) good n o = tt
+    literal-no reclaim good n o = tt
+    literal-no (rollback c js) good n o = tt
+    literal-no nextId good n o = tt
+    literal-no other good n o = tt
+
+    literal-at : (e : Event C) → Ok size (model h) e → Literally h e
+    literal-at (submitted x) o = tt
+    literal-at (polled x) o =
+        let at : latest (x .id) (pubs h) ≡ length (lives h) = source-is size h ok x (o .0) (o .1) in (
+          source-at size h ok x (o .0) (o .1),
+          (
+            (λ (s : Stands h (latest (x .id) (pubs h))).
+                let none : times (latest (x .id) (pubs h)) (sources h) ≡ 0 =
+                rw (at, sources-are size h ok) (upTo-none (length (lives h)) (length (lives h)) (omega arith)) in
+                omega arith),
+            λ i b. stands-low i (omega (arith, at)),
+          ),
+        )
+    literal-at (completed d) o = tt
+    literal-at (reclaimed d) o = tt
+    literal-at (marked c) o = tt
+    literal-at (rolled c js) o = tt
+    literal-at (looked (nexted i)) o = tt
+    literal-at (looked (peeked b)) o = tt
+    literal-at (looked quiet) o = tt
+    literal-at (looked (refused c good n)) o = literal-no c good n o
+    literal-at (looked (astray n)) o = tt
+
+  -- "A poll returns the oldest published chain whose polls, if any, were all rolled back .. it blocks only when none waits", word for word
+  pub literal : (size : ℕ) (h : History C) → AllOk size h → Each Literally h
+  literal size [] o = tt
+  literal size (e ∷ h) o = (literal size h (o .0), literal-at size h (o .0) e (o .1))

@@ -1,0 +1,86 @@
+-- What a ring owes to the queue, call by call, and what it gets for it: demand 3. A ring is any machine that takes calls.
+-- Assumes nothing.
+use Prim.Native.Nat.{ℕ}
+use mathlib.Core.List.{List, [], _∷_}
+use Rattle.queue.specs.History.{Look, Event, History}
+use Rattle.queue.specs.History.{nexted, peeked, quiet, refused, astray, submitted, polled, completed, reclaimed, marked, rolled, looked}
+use Rattle.queue.specs.Promise.{Undoes, UndoesAll, AskedLook, Asked, Each, Fifo}
+use Rattle.queue.proofs.Model.{Queue, start, next, model, Undo, UndoAll, Ok, AllOk, GrantLook, Grant}
+use Rattle.queue.proofs.Trace.{fifo, undo-of, undo-all-of}
+
+pub record Machine (C : Type 0) : Type 1 where
+  pub World : Type 0
+  -- the ring's own calls, with all their arguments
+  pub Call : Type 0
+  -- the call with its answer
+  pub say : World → Call → Event C
+  -- the world after it
+  pub go : World → Call → World
+
+-- what is assumed of an accepted rollback, by the history and by the queue
+pub record Terms (C : Type 0) : Type 1 where
+  pub Premise : History C → C → List ℕ → Type 0
+  pub Granted : Queue C → C → List ℕ → Type 0
+  pub grants : (size : ℕ) (h : History C) → AllOk size h → (c : C) (js : List ℕ) → Premise h c js → Granted (model h) c js
+
+module _ {C : Type 0} where
+  -- "each rollback using a checkpoint that its end took and undoing every poll since, with no completion between"
+  abbrev pub honest : Terms C
+  honest = record { Premise = Undoes; Granted = Undo; grants = undo-of }
+
+  -- the same, with no rollback below its checkpoint since
+  abbrev pub standing : Terms C
+  standing = record { Premise = UndoesAll; Granted = UndoAll; grants = undo-all-of }
+
+  grant-look : (l : Look C) → AskedLook l → GrantLook l
+  grant-look (nexted i) a = tt
+  grant-look (peeked b) a = tt
+  grant-look quiet a = tt
+  grant-look (refused c g n) a = tt
+  grant-look (astray n) a = a
+
+  -- what is asked of an event by the history is granted by the queue
+  pub grant : (terms : Terms C) (size : ℕ) (h : History C) → AllOk size h → (e : Event C) → Asked (terms .Premise) h e → Grant (terms .Granted) (model h) e
+  grant terms size h o (submitted x) a = tt
+  grant terms size h o (polled x) a = tt
+  grant terms size h o (completed d) a = tt
+  grant terms size h o (reclaimed d) a = tt
+  grant terms size h o (marked c) a = tt
+  grant terms size h o (rolled c js) a = terms .grants size h o c js a
+  grant terms size h o (looked l) a = grant-look l a
+
+  module _ (M : Machine C) (w : M .World) where
+    -- the world after these calls, THE LATEST FIRST, and their history
+    unfoldable pub worldOf : List (M .Call) → M .World
+    worldOf [] = w
+    worldOf (c ∷ cs) = M .go (worldOf cs) c
+
+    unfoldable pub historyOf : List (M .Call) → History C
+    historyOf [] = []
+    historyOf (c ∷ cs) = M .say (worldOf cs) c ∷ historyOf cs
+
+    -- what a ring owes: a likeness to the queue that every call keeps, and an answer that the queue allows
+    pub record Matches (size : ℕ) (terms : Terms C) : Type 1 where
+      pub Like : M .World → Queue C → Type 0
+      pub first : Like w start
+      pub step : (v : M .World) (q : Queue C) (c : M .Call) → Like v q → Grant (terms .Granted) q (M .say v c)
+          → Ok size q (M .say v c) × Like (M .go v c) (next q (M .say v c))
+
+    module _ (size : ℕ) (terms : Terms C) (m : Matches size terms) where
+      pub matched : (cs : List (M .Call)) → Each (Asked (terms .Premise)) (historyOf cs)
+          → AllOk size (historyOf cs) × m .Like (worldOf cs) (model (historyOf cs))
+      unfolding worldOf historyOf model
+      matched [] a = (tt, m .first)
+      matched (c ∷ cs) a =
+          let h : History C = historyOf cs in
+          let ih : AllOk size (historyOf cs) × m .Like (worldOf cs) (model (historyOf cs)) = matched cs (a .0) in
+          let s = m .step (worldOf cs) (model (historyOf cs)) c (ih .1) (grant terms size h (ih .0) (M .say (worldOf cs) c) (a .1)) in
+          ((ih .0, s .0), s .1)
+
+      -- DEMAND 3 of this machine: "completions meet their own submissions", whatever calls it is given, if what is asked of them holds
+      pub machine-fifo : (cs : List (M .Call)) → Each (Asked (terms .Premise)) (historyOf cs) → Fifo size (historyOf cs)
+      machine-fifo cs a = fifo size (historyOf cs) (matched cs a .0)
+
+      -- and whatever follows of a history that the queue allows
+      pub machine-ok : (cs : List (M .Call)) → Each (Asked (terms .Premise)) (historyOf cs) → AllOk size (historyOf cs)
+      machine-ok cs a = matched cs a .0

@@ -1,0 +1,513 @@
+-- A history that the queue allows is first in, first out; and a rollback is honest by the history exactly if it is by the queue.
+-- Assumes nothing.
+use mathlib.Core.Path.{_≡_, refl, sym, ap, _∙_, subst}
+use mathlib.Core.Logic.{_⊎_, inl, inr}
+use mathlib.Core.Bool.{true, false}
+use Prim.Native.Nat.{ℕ, suc, _-_, _≤_}
+use native.Mathlib.Nat.{le-refl}
+use native.Mathlib.Omega.{arith}
+use mathlib.Core.List.{List, [], _∷_, _++_, append-assoc, append-nil, append-cancel-left}
+use lib.ListN.{length, drop, length-append}
+use lib.Seq.{drop-at}
+use Rattle.queue.specs.History.{Item, Done, Call, Look, Event, History, Poll, items, ids, upto, after, butLast, without, times, pubs, polls, comps, reclaims, lives, held, out, promised, waiting}
+use Rattle.queue.specs.History.{submit, poll, complete, reclaim, rollback, nextId, other, nexted, peeked, quiet, refused, astray, submitted, polled, completed, reclaimed, marked, rolled, looked}
+use Rattle.queue.specs.Promise.{Undoes, UndoesAll, RightNo, RightLook, Right, Fifo}
+use Rattle.queue.proofs.Model.{Mark, Queue, start, tail, Member, markOf, looking, next, model, Undo, UndoAll, OkNo, OkLook, Ok, AllOk}
+use Rattle.queue.proofs.Listing.{All, all-append, all-map, all-of, Under, Rising, under-mono, rising-snoc, rising-take, items-append, length-items, upto-under, after-under, but-last-rest, but-last-append, all-but-last, named-fit, member-left, member-last, member-snoc, nil-of}
+
+-- of a mark with as many completions as now, no poll before the last completion came after it
+abbrev pub MarkOk : {C : Type 0} → ℕ → ℕ → Mark C → Type 0
+MarkOk c s m = (m .comps ≤ c) × (m .comps ≡ c → s ≤ m .polls)
+
+module _ {C : Type 0} where
+  -- the polls that stood at the last completion: no rollback undoes them
+  unfoldable pub settled : History C → List Poll
+  settled [] = []
+  settled (submitted x ∷ h) = settled h
+  settled (polled x ∷ h) = settled h
+  settled (completed d ∷ h) = lives h
+  settled (reclaimed d ∷ h) = settled h
+  settled (marked c ∷ h) = settled h
+  settled (rolled c js ∷ h) = settled h
+  settled (looked l ∷ h) = settled h
+
+  -- the queue's state is what the history says
+  pub record Link (h : History C) (q : Queue C) : Type 0 where
+    pub published : pubs h ≡ items (lives h) ++ q .waiting
+    pub given : comps h ≡ reclaims h ++ q .done
+    pub stand : lives h ≡ settled h ++ q .fresh
+    pub under : Under (q .since) (settled h)
+    pub live-under : Under (q .polls) (lives h)
+    pub rising : Rising (lives h)
+    pub held-is : held h ≡ q .old ++ q .fresh
+    pub out-is : out h ≡ q .out
+    pub promised-is : promised h ≡ q .promised
+    pub polls-is : polls h ≡ q .polls
+    pub comps-is : length (comps h) ≡ q .comps
+    pub since-le : q .since ≤ q .polls
+    pub marks-ok : All (MarkOk (q .comps) (q .since)) (q .marks)
+
+  link-start : Link [] start
+  unfolding pubs polls comps reclaims lives held out promised settled
+  link-start =
+      record {
+        published = refl;
+        given = refl;
+        stand = refl;
+        under = tt;
+        live-under = tt;
+        rising = tt;
+        held-is = refl;
+        out-is = refl;
+        promised-is = refl;
+        polls-is = refl;
+        comps-is = refl;
+        since-le = omega arith;
+        marks-ok = tt;
+      }
+
+-- the equations of a step, over plain lists
+pub-poll : (P : List Item) (L : List Poll) (w later : List Item) (p : Poll) → P ≡ items L ++ w → w ≡ p .item ∷ later
+    → P ≡ items (L ++ (p ∷ [])) ++ tail w
+pub-poll P L w later p e o = rw (items-append, append-assoc, e, o)
+
+give : (C R w later : List Done) (d : Done) → C ≡ R ++ w → w ≡ d ∷ later → C ≡ (R ++ (d ∷ [])) ++ tail w
+give C R w later d e o = rw (append-assoc, e, o)
+
+pub-roll : (P : List Item) (L s f : List Poll) (w : List Item) (n : ℕ) → P ≡ items L ++ w → L ≡ s ++ f
+    → P ≡ items (s ++ butLast n f) ++ (items (drop (length f - n) f) ++ w)
+pub-roll P L s f w n e o =
+    e ∙ ap (λ (l : List Poll). items l ++ w) (o ∙ ap (λ (l : List Poll). s ++ l) (sym (but-last-rest n f)) ∙ sym (append-assoc s (butLast n f) (drop (length f - n) f)))
+    ∙ rw (items-append (s ++ butLast n f), append-assoc (items (s ++ butLast n f)))
+
+snoc-is : (L s f : List Poll) (n m : ℕ) (x : Item) → n ≡ m → L ≡ s ++ f
+    → L ++ (record { no = suc n; item = x } ∷ []) ≡ s ++ (f ++ (record { no = suc m; item = x } ∷ []))
+snoc-is L s f n m x e o = rw (o, e, append-assoc)
+
+module _ {C : Type 0} where
+  promised-look : (h : History C) (q : Queue C) (l : Look C) → promised h ≡ q .promised → promised (looked l ∷ h) ≡ looking q l
+  unfolding promised
+  promised-look h q (nexted i) e = refl
+  promised-look h q (peeked b) e = e
+  promised-look h q quiet e = e
+  promised-look h q (refused c g n) e = e
+  promised-look h q (astray n) e = e
+
+  link-step : (size : ℕ) (h : History C) (q : Queue C) (e : Event C) → Link h q → Ok size q e → Link (e ∷ h) (next q e)
+  unfolding pubs polls comps reclaims lives held out promised settled next
+  link-step size h q (submitted x) l o =
+      record {
+        published = ap (λ (s : List Item). s ++ (x ∷ [])) (l .published) ∙ append-assoc (items (lives h)) (q .waiting) (x ∷ []);
+        given = l .given;
+        stand = l .stand;
+        under = l .under;
+        live-under = l .live-under;
+        rising = l .rising;
+        held-is = l .held-is;
+        out-is = ap (λ (s : List Item). s ++ (x ∷ [])) (l .out-is);
+        promised-is = refl;
+        polls-is = l .polls-is;
+        comps-is = l .comps-is;
+        since-le = l .since-le;
+        marks-ok = l .marks-ok;
+      }
+  link-step size h q (polled x) l o =
+      let p : Poll = record { no = suc (polls h); item = x } in
+      record {
+        published = pub-poll (pubs h) (lives h) (q .waiting) (o .0) p (l .published) (o .1);
+        given = l .given;
+        stand = snoc-is (lives h) (settled h) (q .fresh) (polls h) (q .polls) x (l .polls-is) (l .stand);
+        under = l .under;
+        live-under =
+            all-append (λ (z : Poll). z .no ≤ suc (q .polls)) (lives h) (p ∷ []) (under-mono (omega arith) (lives h) (l .live-under)) (omega (arith, l .polls-is), tt);
+        rising = rising-snoc (q .polls) (lives h) p (l .live-under) (omega (arith, l .polls-is)) (l .rising);
+        held-is = snoc-is (held h) (q .old) (q .fresh) (polls h) (q .polls) x (l .polls-is) (l .held-is);
+        out-is = l .out-is;
+        promised-is = l .promised-is;
+        polls-is = ap suc (l .polls-is);
+        comps-is = l .comps-is;
+        since-le = omega (arith, l .since-le);
+        marks-ok = l .marks-ok;
+      }
+  link-step size h q (completed d) l o =
+      record {
+        published = l .published;
+        given = ap (λ (s : List Done). s ++ (d ∷ [])) (l .given) ∙ append-assoc (reclaims h) (q .done) (d ∷ []);
+        stand = sym (append-nil (lives h));
+        under = l .live-under;
+        live-under = l .live-under;
+        rising = l .rising;
+        held-is = ap (without (d .id)) (l .held-is) ∙ sym (append-nil (without (d .id) (q .old ++ q .fresh)));
+        out-is = l .out-is;
+        promised-is = l .promised-is;
+        polls-is = l .polls-is;
+        comps-is = omega (arith, length-append (comps h) (d ∷ []), l .comps-is);
+        since-le = le-refl (q .polls);
+        marks-ok =
+            all-map (MarkOk (q .comps) (q .since)) (MarkOk (suc (q .comps)) (q .polls))
+            (λ m z. (omega (arith, z .0), λ (e : m .comps ≡ suc (q .comps)). omega (arith, z .0))) (q .marks) (l .marks-ok);
+      }
+  link-step size h q (reclaimed d) l o =
+      record {
+        published = l .published;
+        given = give (comps h) (reclaims h) (q .done) (o .0) d (l .given) (o .1);
+        stand = l .stand;
+        under = l .under;
+        live-under = l .live-under;
+        rising = l .rising;
+        held-is = l .held-is;
+        out-is = rw (l .out-is);
+        promised-is = refl;
+        polls-is = l .polls-is;
+        comps-is = l .comps-is;
+        since-le = l .since-le;
+        marks-ok = l .marks-ok;
+      }
+  link-step size h q (marked c) l o =
+      record {
+        published = l .published;
+        given = l .given;
+        stand = l .stand;
+        under = l .under;
+        live-under = l .live-under;
+        rising = l .rising;
+        held-is = l .held-is;
+        out-is = l .out-is;
+        promised-is = l .promised-is;
+        polls-is = l .polls-is;
+        comps-is = l .comps-is;
+        since-le = l .since-le;
+        marks-ok =
+            all-append (MarkOk (q .comps) (q .since)) (q .marks) (markOf q c ∷ []) (l .marks-ok) ((le-refl (q .comps), λ e. l .since-le), tt);
+      }
+  link-step size h q (rolled c js) l o =
+      let fit : length js ≤ length (q .fresh) = named-fit (o .mark .polls) (q .fresh) js (o .names) in
+      let cut : butLast (length js) (lives h) ≡ settled h ++ butLast (length js) (q .fresh) =
+      ap (butLast (length js)) (l .stand) ∙ but-last-append (length js) (settled h) (q .fresh) fit in
+      record {
+        published = rw cut (pub-roll (pubs h) (lives h) (settled h) (q .fresh) (q .waiting) (length js) (l .published) (l .stand));
+        given = l .given;
+        stand = cut;
+        under = l .under;
+        live-under = all-but-last (λ (p : Poll). p .no ≤ q .polls) (length js) (lives h) (l .live-under);
+        rising = rising-take (length (lives h) - length js) (lives h) (l .rising);
+        held-is = ap (butLast (length js)) (l .held-is) ∙ but-last-append (length js) (q .old) (q .fresh) fit;
+        out-is = l .out-is;
+        promised-is = l .promised-is;
+        polls-is = l .polls-is;
+        comps-is = l .comps-is;
+        since-le = l .since-le;
+        marks-ok = l .marks-ok;
+      }
+  link-step size h q (looked k) l o =
+      record {
+        published = l .published;
+        given = l .given;
+        stand = l .stand;
+        under = l .under;
+        live-under = l .live-under;
+        rising = l .rising;
+        held-is = l .held-is;
+        out-is = l .out-is;
+        promised-is = promised-look h q k (l .promised-is);
+        polls-is = l .polls-is;
+        comps-is = l .comps-is;
+        since-le = l .since-le;
+        marks-ok = l .marks-ok;
+      }
+
+  pub link : (size : ℕ) (h : History C) → AllOk size h → Link h (model h)
+  unfolding model
+  link size [] o = link-start
+  link size (e ∷ h) o = link-step size h (model h) e (link size h (o .0)) (o .1)
+
+  -- ---- the checkpoints of the queue are those that the history took
+
+  pub all-ok-before : (size : ℕ) (g h : History C) → AllOk size (g ++ h) → AllOk size h
+  all-ok-before size [] h o = o
+  all-ok-before size (e ∷ g) h o = all-ok-before size g h (o .0)
+
+  marks-grow : (q : Queue C) (e : Event C) (m : Mark C) → Member m (q .marks) → Member m (next q e .marks)
+  unfolding next
+  marks-grow q (submitted x) m k = k
+  marks-grow q (polled x) m k = k
+  marks-grow q (completed d) m k = k
+  marks-grow q (reclaimed d) m k = k
+  marks-grow q (marked c) m k = member-left m (q .marks) (markOf q c ∷ []) k
+  marks-grow q (rolled c js) m k = k
+  marks-grow q (looked l) m k = k
+
+  mark-since : (since before : History C) (c : C) → Member (markOf (model before) c) (model (since ++ (marked c ∷ before)) .marks)
+  unfolding model next
+  mark-since [] before c = member-last (markOf (model before) c) (model before .marks)
+  mark-since (e ∷ since) before c = marks-grow (model (since ++ (marked c ∷ before))) e (markOf (model before) c) (mark-since since before c)
+
+  pub mark-in : (h since before : History C) (c : C) → h ≡ since ++ (marked c ∷ before) → Member (markOf (model before) c) (model h .marks)
+  mark-in h since before c e = rw e (mark-since since before c)
+
+  -- a mark of the queue, and where in the history it was taken
+  record Came (h : History C) (m : Mark C) : Type 0 where
+    since : History C
+    before : History C
+    took : h ≡ since ++ (marked (m .value) ∷ before)
+    is : m ≡ markOf (model before) (m .value)
+
+  came-on : (h : History C) (e : Event C) (m : Mark C) → Came h m → Came (e ∷ h) m
+  came-on h e m k =
+      record { since = e ∷ k .since; before = k .before; took = ap (λ (g : History C). e ∷ g) (k .took); is = k .is }
+
+  came-marked : (h : History C) (c : C) (m : Mark C) → (Member m (model h .marks) → Came h m) → Member m (model h .marks) ⊎ (markOf (model h) c ≡ m)
+      → Came (marked c ∷ h) m
+  came-marked h c m f (inl k) = came-on h (marked c) m (f k)
+  came-marked h c m f (inr e) = subst (Came (marked c ∷ h)) e (record { since = []; before = h; took = refl; is = refl })
+
+  came : (h : History C) (m : Mark C) → Member m (model h .marks) → Came h m
+  unfolding model next
+  came [] m k = absurd k
+  came (submitted x ∷ h) m k = came-on h (submitted x) m (came h m k)
+  came (polled x ∷ h) m k = came-on h (polled x) m (came h m k)
+  came (completed d ∷ h) m k = came-on h (completed d) m (came h m k)
+  came (reclaimed d ∷ h) m k = came-on h (reclaimed d) m (came h m k)
+  came (marked c ∷ h) m k = came-marked h c m (λ z. came h m z) (member-snoc m (model h .marks) (markOf (model h) c) k)
+  came (rolled c js ∷ h) m k = came-on h (rolled c js) m (came h m k)
+  came (looked l ∷ h) m k = came-on h (looked l) m (came h m k)
+
+  -- ---- no completion between
+
+  pub comps-append : (g h : History C) → comps (g ++ h) ≡ comps h ++ comps g
+  unfolding comps
+  comps-append [] h = sym (append-nil (comps h))
+  comps-append (submitted x ∷ g) h = comps-append g h
+  comps-append (polled x ∷ g) h = comps-append g h
+  comps-append (completed d ∷ g) h = ap (λ (l : List Done). l ++ (d ∷ [])) (comps-append g h) ∙ append-assoc (comps h) (comps g) (d ∷ [])
+  comps-append (reclaimed d ∷ g) h = comps-append g h
+  comps-append (marked c ∷ g) h = comps-append g h
+  comps-append (rolled c js ∷ g) h = comps-append g h
+  comps-append (looked l ∷ g) h = comps-append g h
+
+  none-between : (g h : History C) → length (comps (g ++ h)) ≡ length (comps h) → length (comps g) ≡ 0
+  none-between g h e = omega (arith, ap length (comps-append g h), length-append (comps h) (comps g))
+
+  -- as many completions before as now: the same, and the same polls are settled
+  same-comps : (g h : History C) → length (comps g) ≡ 0 → comps (g ++ h) ≡ comps h
+  same-comps g h e = comps-append g h ∙ ap (λ (l : List Done). comps h ++ l) (nil-of (comps g) e) ∙ append-nil (comps h)
+
+  same-settled : (g h : History C) → length (comps g) ≡ 0 → settled (g ++ h) ≡ settled h
+  unfolding comps settled
+  same-settled [] h e = refl
+  same-settled (submitted x ∷ g) h e = same-settled g h e
+  same-settled (polled x ∷ g) h e = same-settled g h e
+  same-settled (completed d ∷ g) h e = absurd (omega (arith, length-append (comps g) (d ∷ [])))
+  same-settled (reclaimed d ∷ g) h e = same-settled g h e
+  same-settled (marked c ∷ g) h e = same-settled g h e
+  same-settled (rolled c js ∷ g) h e = same-settled g h e
+  same-settled (looked l ∷ g) h e = same-settled g h e
+
+  comps-marked : (c : C) (h : History C) → comps (marked c ∷ h) ≡ comps h
+  unfolding comps
+  comps-marked c h = refl
+
+  settled-marked : (c : C) (h : History C) → settled (marked c ∷ h) ≡ settled h
+  unfolding settled
+  settled-marked c h = refl
+
+  -- ---- a rollback that is honest by the history is so by the queue, and the other way round
+
+  -- what a checkpoint of the history is in the queue
+  module _ (size : ℕ) (h : History C) (ok : AllOk size h) (c : C) (since before : History C) (took : h ≡ since ++ (marked c ∷ before)) where
+    ok-before : AllOk size before
+    ok-before = all-ok-before size since (marked c ∷ before) (rw took at ok) .0
+
+    at-polls : polls before ≡ model before .polls
+    at-polls = link size before ok-before .polls-is
+
+    pub comps-now : comps h ≡ comps before → model before .comps ≡ model h .comps
+    comps-now e = sym (link size before ok-before .comps-is) ∙ ap length (sym e) ∙ link size h ok .comps-is
+
+    module _ (same : model before .comps ≡ model h .comps) where
+      between : length (comps since) ≡ 0
+      between =
+          none-between since (marked c ∷ before)
+          (ap (λ (g : History C). length (comps g)) (sym took) ∙ link size h ok .comps-is ∙ sym same ∙ sym (link size before ok-before .comps-is)
+          ∙ ap length (sym (comps-marked c before)))
+
+      comps-then : comps h ≡ comps before
+      comps-then = ap comps took ∙ same-comps since (marked c ∷ before) between ∙ comps-marked c before
+
+      settled-then : settled h ≡ settled before
+      settled-then = ap settled took ∙ same-settled since (marked c ∷ before) between ∙ settled-marked c before
+
+      pub settled-under : Under (polls before) (settled h)
+      settled-under =
+          let low : model h .since ≤ model before .polls =
+          all-of (MarkOk (model h .comps) (model h .since)) (markOf (model before) c) (model h .marks) (mark-in h since before c took) (link size h ok .marks-ok) .1 same in
+          under-mono (rw at-polls low) (settled h) (link size h ok .under)
+
+      pub same-after : after (polls before) (lives h) ≡ after (model before .polls) (model h .fresh)
+      same-after =
+          ap (after (polls before)) (link size h ok .stand) ∙ after-under (polls before) (settled h) (model h .fresh) settled-under
+          ∙ ap (λ (k : ℕ). after k (model h .fresh)) at-polls
+
+      same-upto : upto (polls before) (lives h) ≡ settled h ++ upto (model before .polls) (model h .fresh)
+      same-upto =
+          ap (upto (polls before)) (link size h ok .stand) ∙ upto-under (polls before) (settled h) (model h .fresh) settled-under
+          ∙ ap (λ (k : ℕ). settled h ++ upto k (model h .fresh)) at-polls
+
+      lives-before : lives before ≡ settled h ++ model before .fresh
+      lives-before = link size before ok-before .stand ∙ ap (λ (l : List Poll). l ++ model before .fresh) (sym settled-then)
+
+  module _ (size : ℕ) (h : History C) (ok : AllOk size h) (c : C) (js : List ℕ) where
+    pub undo-of : Undoes h c js → Undo (model h) c js
+    undo-of u =
+        let same : model (u .before) .comps ≡ model h .comps = comps-now size h ok c (u .since) (u .before) (u .took) (u .none-completed) in
+        record {
+          mark = markOf (model (u .before)) c;
+          taken = mark-in h (u .since) (u .before) c (u .took);
+          value = refl;
+          same-comps = same;
+          names = λ y. u .names y ∙ ap (λ (l : List Poll). times y (ids l)) (same-after size h ok c (u .since) (u .before) (u .took) same);
+        }
+
+    pub undo-all-of : UndoesAll h c js → UndoAll (model h) c js
+    unfolding undo-of
+    undo-all-of a =
+        let u : Undoes h c js = a .undoes in
+        let same : model (u .before) .comps ≡ model h .comps = comps-now size h ok c (u .since) (u .before) (u .took) (u .none-completed) in
+        record {
+          undo = undo-of u;
+          stand =
+              append-cancel-left (settled h) (upto (model (u .before) .polls) (model h .fresh)) (model (u .before) .fresh)
+              (sym (same-upto size h ok c (u .since) (u .before) (u .took) same) ∙ a .stand ∙ lives-before size h ok c (u .since) (u .before) (u .took) same);
+        }
+
+    -- the mark of an `Undo`, as the history has it
+    record Back (u : Undo (model h) c js) : Type 0 where
+      since : History C
+      before : History C
+      took : h ≡ since ++ (marked c ∷ before)
+      is : u .mark ≡ markOf (model before) c
+
+    back : (u : Undo (model h) c js) → Back u
+    back u =
+        let k : Came h (u .mark) = came h (u .mark) (u .taken) in
+        record {
+          since = k .since;
+          before = k .before;
+          took = k .took ∙ ap (λ (v : C). k .since ++ (marked v ∷ k .before)) (u .value);
+          is = k .is ∙ ap (markOf (model (k .before))) (u .value);
+        }
+
+    back-same : (u : Undo (model h) c js) → model (back u .before) .comps ≡ model h .comps
+    back-same u = ap (λ (m : Mark C). m .comps) (sym (back u .is)) ∙ u .same-comps
+
+    pub undoes-of : Undo (model h) c js → Undoes h c js
+    undoes-of u =
+        let b : Back u = back u in
+        record {
+          since = b .since;
+          before = b .before;
+          took = b .took;
+          none-completed = comps-then size h ok c (b .since) (b .before) (b .took) (back-same u);
+          names = λ y.
+              u .names y ∙ ap (λ (m : Mark C). times y (ids (after (m .polls) (model h .fresh)))) (b .is)
+              ∙ ap (λ (l : List Poll). times y (ids l)) (sym (same-after size h ok c (b .since) (b .before) (b .took) (back-same u)));
+        }
+
+    pub undoes-all-of : UndoAll (model h) c js → UndoesAll h c js
+    unfolding undoes-of
+    undoes-all-of a =
+        let u : Undo (model h) c js = a .undo in
+        let b : Back u = back u in
+        record {
+          undoes = undoes-of u;
+          stand =
+              same-upto size h ok c (b .since) (b .before) (b .took) (back-same u)
+              ∙ ap (λ (m : Mark C). settled h ++ upto (m .polls) (model h .fresh)) (sym (b .is)) ∙ ap (λ (l : List Poll). settled h ++ l) (a .stand)
+              ∙ ap (λ (m : Mark C). settled h ++ m .stood) (b .is) ∙ sym (lives-before size h ok c (b .since) (b .before) (b .took) (back-same u));
+        }
+
+  -- ---- the promise
+
+  module _ (size : ℕ) (h : History C) (ok : AllOk size h) where
+    l : Link h (model h)
+    l = link size h ok
+
+    pub waiting-is : waiting h ≡ model h .waiting
+    waiting-is = ap (λ (x : List Item). drop (length (lives h)) x) (l .published) ∙ drop-at (items (lives h)) (model h .waiting) (length (lives h)) (length-items (lives h))
+
+    none-waits : model h .waiting ≡ [] → pubs h ≡ items (lives h)
+    none-waits e = l .published ∙ ap (λ (w : List Item). items (lives h) ++ w) e ∙ append-nil (items (lives h))
+
+    right-no : (c : Call C) (n : ℕ) → OkNo size (model h) c n → RightNo size h c n
+    right-no (submit c) n o = rw (l .out-is) o
+    right-no poll n o = (o .0, none-waits (o .1))
+    right-no (complete d) n o = (o .0, rw (l .held-is) (o .1))
+    right-no reclaim n o = (o .0, l .given ∙ ap (λ (w : List Done). reclaims h ++ w) (o .1) ∙ append-nil (reclaims h))
+    right-no (rollback c js) n o = (o .0, λ a. o .1 (undo-all-of size h ok c js a))
+    right-no nextId n o = rw (l .out-is) o
+    right-no other n o = o
+
+    right-look : (k : Look C) → OkLook size (model h) k → RightLook size h k
+    right-look (nexted i) o = rw (l .out-is) o
+    right-look (peeked b) o = rw waiting-is o
+    right-look quiet o = tt
+    right-look (refused c true n) o = right-no c n o
+    right-look (refused c false n) o = o
+    right-look (astray n) o = tt
+
+    right : (e : Event C) → Ok size (model h) e → Right size h e
+    right (submitted x) o = rw (l .out-is, l .promised-is) o
+    right (polled x) o = (o .0, l .published ∙ ap (λ (w : List Item). items (lives h) ++ w) (o .1))
+    right (completed d) o = rw (l .held-is) o
+    right (reclaimed d) o = (o .0, l .given ∙ ap (λ (w : List Done). reclaims h ++ w) (o .1))
+    right (marked c) o = tt
+    right (rolled c js) o = undoes-of size h ok c js o
+    right (looked k) o = right-look k o
+
+  -- DEMAND 3, of every history that the queue allows
+  pub fifo : (size : ℕ) (h : History C) → AllOk size h → Fifo size h
+  fifo size [] o = tt
+  fifo size (e ∷ h) o = (fifo size h (o .0), right size h (o .0) e (o .1))
+
+  -- ---- and back: what the promise allows, the queue allows; so whatever follows from the queue follows from the promise alone
+
+  module _ (size : ℕ) (h : History C) (ok : AllOk size h) where
+    k : Link h (model h)
+    k = link size h ok
+
+    -- what waits, and what is done, by what comes after those polled and those returned
+    waits : (w : List Item) → pubs h ≡ items (lives h) ++ w → model h .waiting ≡ w
+    waits w e = append-cancel-left (items (lives h)) (model h .waiting) w (sym (k .published) ∙ e)
+
+    dones : (w : List Done) → comps h ≡ reclaims h ++ w → model h .done ≡ w
+    dones w e = append-cancel-left (reclaims h) (model h .done) w (sym (k .given) ∙ e)
+
+    ok-no : (c : Call C) (n : ℕ) → RightNo size h c n → OkNo size (model h) c n
+    ok-no (submit c) n r = rw (← k .out-is) r
+    ok-no poll n r = (r .0, waits [] (r .1 ∙ sym (append-nil (items (lives h)))))
+    ok-no (complete d) n r = (r .0, rw (← k .held-is) (r .1))
+    ok-no reclaim n r = (r .0, dones [] (r .1 ∙ sym (append-nil (reclaims h))))
+    ok-no (rollback c js) n r = (r .0, λ a. r .1 (undoes-all-of size h ok c js a))
+    ok-no nextId n r = rw (← k .out-is) r
+    ok-no other n r = r
+
+    ok-look : (z : Look C) → RightLook size h z → OkLook size (model h) z
+    ok-look (nexted i) r = rw (← k .out-is) r
+    ok-look (peeked b) r = rw (← waiting-is size h ok) r
+    ok-look quiet r = tt
+    ok-look (refused c true n) r = ok-no c n r
+    ok-look (refused c false n) r = r
+    ok-look (astray n) r = tt
+
+    ok-of : (e : Event C) → Right size h e → Ok size (model h) e
+    ok-of (submitted x) r = rw (← k .out-is, ← k .promised-is) r
+    ok-of (polled x) r = (r .0, waits (x ∷ r .0) (r .1))
+    ok-of (completed d) r = rw (← k .held-is) r
+    ok-of (reclaimed d) r = (r .0, dones (d ∷ r .0) (r .1))
+    ok-of (marked c) r = tt
+    ok-of (rolled c js) r = undo-of size h ok c js r
+    ok-of (looked z) r = ok-look z r
+
+  pub allowed : (size : ℕ) (h : History C) → Fifo size h → AllOk size h
+  allowed size [] f = tt
+  allowed size (e ∷ h) f = let ok : AllOk size h = allowed size h (f .0) in (ok, ok-of size h ok e (f .1))
