@@ -4,3 +4,5 @@ pub mod Spells
 pub mod Invariant
 pub mod Answers
 pub mod Polls
+pub mod Stack
+pub mod Reclaims

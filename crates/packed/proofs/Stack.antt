@@ -1,0 +1,83 @@
+-- The ID on top of the stack: it is the ring's, it is of no chain that is out, and it has no count.
+-- Assumes nothing.
+use Prim.Native.Nat.{ℕ, suc, _+_, _-_, _≤_, _<_}
+use mathlib.Core.Path.{_≡_, refl, sym, ap, _∙_}
+use mathlib.Core.Logic.{inl, inr}
+use mathlib.Core.Bool.{true, false}
+use mathlib.Core.List.{List, [], _∷_}
+use native.Mathlib.Omega.{arith}
+use lib.ListN.{length, getD, take}
+use Rattle.base.specs.Answer.{Answer, done, refused}
+use Rattle.base.proofs.Tests.{by-lt}
+use Rattle.layout.specs.declared.Layout.{Layout}
+use Rattle.layout.specs.Layout.{badLayout}
+use Rattle.producer.specs.Submit.{topOf}
+use Rattle.producer.specs.Poll.{nextRefusal, nextOf}
+use Rattle.producer.proofs.Poll.{next-refused, next-done}
+use Rattle.producer.proofs.Goes.{next-none, next-goes}
+use Rattle.consumer.specs.declared.Checkpoint.{Checkpoint}
+use Rattle.queue.specs.History.{Item}
+use Rattle.queue.specs.History as said
+use Rattle.queue.specs.Promise.{Unlike}
+use Rattle.queue.proofs.Model.{Queue}
+use Rattle.packed.specs.Machine.{World, saysNext}
+use Rattle.packed.proofs.Answers.{either-refused}
+use Rattle.packed.proofs.Counts.{Used, ofItems, ofUsed, hit, occS, occ, slots, hit-same, slots-none, one-le, one-low, occ-top, unlike-of-occ}
+use Rattle.packed.proofs.Invariant.{O, F, W, Like, Good, good-by, p-size, p-sound, like-look}
+
+module _ (l : Layout) (laid-out : badLayout l ≡ false) where
+  abbrev size : ℕ
+  size = l .size
+
+  module _ (ret : List Used) (w : World) (q : Queue Checkpoint) (k : Like l ret w q) where
+    abbrev top : ℕ
+    top = topOf (w .prod) (w .ids)
+
+    module _ (some-left : 0 < w .prod .height) where
+      -- the stack is what is below its top, and the top
+      pub popped : (y : ℕ) → occS y (take (w .prod .height) (w .ids)) ≡ occS y (take (w .prod .height - 1) (w .ids)) + hit top y 1
+      popped y =
+          let e : w .prod .height ≡ suc (w .prod .height - 1) = omega arith in
+          ap (λ (h : ℕ). occS y (take h (w .ids))) e
+          ∙ occ-top y (w .ids) (w .prod .height - 1) (omega (arith, k .heights, k .ids-whole))
+
+      pub top-low : top < size
+      top-low = one-low size top (omega (arith, k .once top, popped top, hit-same top 1))
+
+      pub top-out : occ top (ofItems (q .out)) ≡ 0
+      top-out = omega (arith, k .once top, popped top, hit-same top 1, one-le size top, k .out-occ top)
+
+      pub top-count : getD (w .counts) top 0 ≡ 0
+      top-count =
+          let h = hit-same top 1 in
+          let a : slots top (W q) ≡ 0 = slots-none top (W q) (omega (arith, k .once top, popped top, h, one-le size top)) in
+          let b : slots top (O q) ≡ 0 = slots-none top (O q) (omega (arith, k .once top, popped top, h, one-le size top)) in
+          let c : slots top (F q) ≡ 0 = slots-none top (F q) (omega (arith, k .once top, popped top, h, one-le size top)) in
+          let d : slots top (ofUsed ret) ≡ 0 = slots-none top (ofUsed ret) (omega (arith, k .once top, popped top, h, one-le size top)) in
+          omega (arith, k .p-nums top top-low, a, b, c, d)
+
+      pub top-unlike : Unlike top (q .out)
+      top-unlike = unlike-of-occ top (q .out) top-out
+
+    -- NEXT ID: the one on top, and 4 exactly if none is free
+    pub next-good : Good l q (saysNext (nextOf (w .prod) (w .ids) (w .counts))) w
+    next-good =
+        let s = p-size l laid-out ret w q k in
+        let r = p-sound l laid-out ret w q k in
+        by-lt 0 (w .prod .height)
+        (λ h.
+        let e : nextOf (w .prod) (w .ids) (w .counts) ≡ done (top ∷ []) =
+        next-done (w .prod) (w .ids) (w .counts)
+        (next-goes (w .prod) (w .ids) (w .counts) r (omega (arith, s, k .ids-whole)) (omega (arith, s, k .counts-whole)) h (omega (arith, s, top-low h)) (top-count h)) in
+        good-by l q _ (said.looked (said.nexted top)) w w (ap saysNext e) refl
+        ((top-low h, (top-unlike h, omega (arith, k .heights))), (ret, like-look l laid-out ret w q k (said.nexted top) (λ i p. (h, first p)))))
+        (λ h.
+        let n = next-none (w .prod) (w .ids) (w .counts) r (omega (arith, s, k .ids-whole)) (omega (arith, s, k .counts-whole)) (omega arith) in
+        let e : nextOf (w .prod) (w .ids) (w .counts) ≡ refused 4 =
+        next-refused (w .prod) (w .ids) (w .counts) (λ z. omega (arith, n, z)) ∙ ap refused n in
+        good-by l q _ (said.looked (said.refused said.nextId true 4)) w w
+        (either-refused (nextOf (w .prod) (w .ids) (w .counts)) 4 _ said.nextId true e (omega arith)) refl
+        ((refl, omega (arith, k .heights)), (ret, like-look l laid-out ret w q k (said.refused said.nextId true 4) (k .promise))))
+      where
+        first : {a b : ℕ} → _≡_ {A = List ℕ} (a ∷ []) (b ∷ []) → a ≡ b
+        first p = ap (λ (t : List ℕ). getD t 0 0) p
