@@ -3,12 +3,38 @@ ghost use Prim.Native.Nat.{_≤_};
 ghost use lib.ListN.{length};
 use crate::Run;
 use crate::Turn;
-use crate::output;
 use crate::step;
+use libc::STDIN_FILENO;
 use libc::STDOUT_FILENO;
+use lines::output;
 
 // The longest line: 4,096 addresses and lengths, of 32 bytes with their spaces, and a few numbers more.
 const LINE: usize = 131200;
+
+// Reads traces on standard input and writes what the port answers. Every slice has the length that the format names.
+pub fn run_input() {
+    let mut input = [0u8; 262144];
+    let mut out = [0u8; 262144];
+    let mut region = [0u8; 65536];
+    let mut ids = [0u16; 2048];
+    let mut taken = [0u16; 2048];
+    let mut held = [0u16; 2048];
+    let mut addrs = [0u64; 2048];
+    let mut lens = [0u32; 2048];
+    let mut registers = [0u16; 1280];
+    let n = io::read_full(STDIN_FILENO, &mut input);
+    run_all(
+        &input[..n],
+        &mut out,
+        &mut region,
+        &mut ids,
+        &mut taken,
+        &mut held,
+        &mut addrs,
+        &mut lens,
+        &mut registers,
+    );
+}
 
 // The lent slices' lengths are the trace format's. Answers how many bytes of the input were run: all of them,
 // unless a record was bad or a line could not be written.
@@ -21,8 +47,7 @@ pub fn run_all(
     held: &mut [u16],
     addrs: &mut [u64],
     lens: &mut [u32],
-    chain_addrs: &mut [u64],
-    chain_lens: &mut [u32],
+    registers: &mut [u16],
 ) -> usize
     ensures { λ r. ⌜ r ≤ length (now (input .entry)) ⌝ }
 {
@@ -39,8 +64,7 @@ pub fn run_all(
             held,
             addrs,
             lens,
-            chain_addrs,
-            chain_lens,
+            registers,
         );
         match turn {
             Turn::Ended(n) => {

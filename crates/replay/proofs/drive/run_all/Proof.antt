@@ -14,7 +14,7 @@ use Rattle.replay.proofs.drive.run_all.Statement.{statement}
 use Rattle.replay.proofs.drive.run_all.Tie as tie
 
 abbrev Inv-loop : tie.InvT-loop
-Inv-loop input out₀ region₀ ids₀ taken₀ held₀ addrs₀ lens₀ chain-addrs₀ chain-lens₀ run₀ out region ids taken held addrs lens chain-addrs chain-lens run =
+Inv-loop input out₀ region₀ ids₀ taken₀ held₀ addrs₀ lens₀ registers₀ run₀ out region ids taken held addrs lens registers run =
     (length out ≡ length out₀)
     × (length region ≡ length region₀)
     × (length ids ≡ length ids₀)
@@ -22,22 +22,21 @@ Inv-loop input out₀ region₀ ids₀ taken₀ held₀ addrs₀ lens₀ chain-a
     × (length held ≡ length held₀)
     × (length addrs ≡ length addrs₀)
     × (length lens ≡ length lens₀)
-    × (length chain-addrs ≡ length chain-addrs₀)
-    × (length chain-lens ≡ length chain-lens₀)
+    × (length registers ≡ length registers₀)
     × (run .at ≤ length input)
 
 abbrev μ-loop : tie.MeasureT-loop
-μ-loop input out₀ region₀ ids₀ taken₀ held₀ addrs₀ lens₀ chain-addrs₀ chain-lens₀ run₀ out region ids taken held addrs lens chain-addrs chain-lens run =
+μ-loop input out₀ region₀ ids₀ taken₀ held₀ addrs₀ lens₀ registers₀ run₀ out region ids taken held addrs lens registers run =
     length input - run .at
 
 abbrev head : tie.After-step Inv-loop μ-loop → tie.At-loop Inv-loop μ-loop
-head c = c .before .before .before .before .before .before .before .before .before .before .before .before .before
+head c = c .before .before .before .before .before .before .before .before .before .before .before .before
 
 abbrev ended : tie.After-write Inv-loop μ-loop → tie.After-step Inv-loop μ-loop
-ended c = c .before .before .before .before .before .before .before .before .before .before .before .before .before .before .before .before .before .before .before .before .before .before .before
+ended c = c .before .before .before .before .before .before .before .before .before .before .before .before .before .before .before .before .before .before .before .before .before
 
 abbrev gone-on : tie.After-known-told2 Inv-loop μ-loop → tie.After-step Inv-loop μ-loop
-gone-on c = c .before .before .before .before .before .before .before .before .before .before .before .before .before .before .before .before .before .before .before .before .before
+gone-on c = c .before .before .before .before .before .before .before .before .before .before .before .before .before .before .before .before .before .before .before
 
 -- what a step ensures, where it goes on
 on : (at end : ℕ) {t : Turn} {r : Run} → t ≡ On r → Onward at end t → (at < r .at) × (r .at ≤ end)
@@ -45,17 +44,17 @@ on at end e h = subst (Onward at end) e h
 
 went :
     (c : tie.After-known-told2 Inv-loop μ-loop) →
-    (gone-on c .before .before .before .before .before .before .before .before .before .before .said .result .at < c .before .turn2 .given .0 .0 .at)
-    × (c .before .turn2 .given .0 .0 .at ≤ length (head (gone-on c) .before .before .before .before .before .before .before .before .before .before .before .before .args .input .now))
+    (gone-on c .before .before .before .before .before .before .before .before .before .said .result .at < c .before .turn2 .given .0 .0 .at)
+    × (c .before .turn2 .given .0 .0 .at ≤ length (head (gone-on c) .before .before .before .before .before .before .before .before .before .before .before .args .input .now))
 went c =
-    on (gone-on c .before .before .before .before .before .before .before .before .before .before .said .result .at) (length (head (gone-on c) .before .before .before .before .before .before .before .before .before .before .before .before .args .input .now)) (c .before .turn2 .given .1)
+    on (gone-on c .before .before .before .before .before .before .before .before .before .said .result .at) (length (head (gone-on c) .before .before .before .before .before .before .before .before .before .before .before .args .input .now)) (c .before .turn2 .given .1)
     (gone-on c .step .ensures)
 
 new-requires : tie.Need-new-requires Inv-loop μ-loop
 new-requires c κs = search needs
 
 loop-holds : tie.Need-loop-holds Inv-loop μ-loop
-loop-holds c = (refl, refl, refl, refl, refl, refl, refl, refl, refl, omega arith)
+loop-holds c = (refl, refl, refl, refl, refl, refl, refl, refl, omega arith)
 
 emptied-requires : tie.Need-emptied-requires Inv-loop μ-loop
 emptied-requires c κs = search needs
@@ -96,17 +95,14 @@ same-length-7 c = ended c .step .kept .1 .1 .1 .1 .1 .1 .1 .1 .0 ∙ head (ended
 same-length-8 : tie.Need-same-length-8 Inv-loop μ-loop
 same-length-8 c = ended c .step .kept .1 .1 .1 .1 .1 .1 .1 .1 .1 .0 ∙ head (ended c) .loop .inv .7
 
-same-length-9 : tie.Need-same-length-9 Inv-loop μ-loop
-same-length-9 c = ended c .step .kept .1 .1 .1 .1 .1 .1 .1 .1 .1 .1 .0 ∙ head (ended c) .loop .inv .8
-
 returns : tie.Need-returns Inv-loop μ-loop
-returns c = head (ended c) .loop .inv .9
+returns c = head (ended c) .loop .inv .8
 
 enum-known-turn-2 : tie.Need-enum-known-turn-2 Inv-loop μ-loop
 enum-known-turn-2 c = search needs
 
 loop-less : tie.Need-loop-less Inv-loop μ-loop
-loop-less c = let w = went c in omega (arith, gone-on c .before .before .before .before .before .before .before .before .before .before .said .ensures .0)
+loop-less c = let w = went c in omega (arith, gone-on c .before .before .before .before .before .before .before .before .before .said .ensures .0)
 
 loop-again : tie.Need-loop-again Inv-loop μ-loop
 loop-again c = (
@@ -118,7 +114,6 @@ loop-again c = (
   gone-on c .step .kept .1 .1 .1 .1 .1 .1 .1 .0 ∙ head (gone-on c) .loop .inv .5,
   gone-on c .step .kept .1 .1 .1 .1 .1 .1 .1 .1 .0 ∙ head (gone-on c) .loop .inv .6,
   gone-on c .step .kept .1 .1 .1 .1 .1 .1 .1 .1 .1 .0 ∙ head (gone-on c) .loop .inv .7,
-  gone-on c .step .kept .1 .1 .1 .1 .1 .1 .1 .1 .1 .1 .0 ∙ head (gone-on c) .loop .inv .8,
   went c .1,
 )
 
@@ -143,7 +138,6 @@ run-all-spec =
     same-length-6
     same-length-7
     same-length-8
-    same-length-9
     returns
     enum-known-turn-2
     loop-less

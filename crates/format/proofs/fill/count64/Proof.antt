@@ -1,0 +1,57 @@
+-- `format::fill::count64` is safe and ends. The loop keeps the slice's length; the measure is what is left of the entries.
+-- Assumes nothing.
+use borrow.Author.Needs.{needs}
+use Prim.Native.Nat.{_-_}
+use mathlib.Core.Path.{_≡_}
+use lib.ListN.{length}
+use Rattle.format.proofs.fill.count64.Statement.{statement}
+use Rattle.format.proofs.fill.count64.Tie as tie
+
+abbrev Inv-loop : tie.InvT-loop
+Inv-loop s₀ n k₀ s k = length s ≡ length s₀
+
+abbrev μ-loop : tie.MeasureT-loop
+μ-loop s₀ n k₀ s k = n - k
+
+loop-holds : tie.Need-loop-holds Inv-loop μ-loop
+loop-holds c = search needs
+
+cast-set64 : tie.Need-cast-set64 Inv-loop μ-loop
+cast-set64 c = search needs
+
+cast-set64-2 : tie.Need-cast-set64-2 Inv-loop μ-loop
+cast-set64-2 c = search needs
+
+set64-requires : tie.Need-set64-requires Inv-loop μ-loop
+set64-requires c κs = search needs
+
+add-k : tie.Need-add-k Inv-loop μ-loop
+add-k c = search needs
+
+loop-less : tie.Need-loop-less Inv-loop μ-loop
+loop-less c = search needs
+
+loop-again : tie.Need-loop-again Inv-loop μ-loop
+loop-again c = search needs
+
+same-length : tie.Need-same-length Inv-loop μ-loop
+same-length c = search needs
+
+returns : tie.Need-returns Inv-loop μ-loop
+returns c = search needs
+
+pub count64-spec : {M : Type 1} → statement M
+count64-spec =
+    tie.close
+    (tie.spec
+    Inv-loop
+    μ-loop
+    loop-holds
+    cast-set64
+    cast-set64-2
+    set64-requires
+    add-k
+    loop-less
+    loop-again
+    same-length
+    returns)
