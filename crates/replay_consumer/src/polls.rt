@@ -4,7 +4,7 @@ use crate::answered;
 use consumer::Opened;
 use consumer::Polled;
 use consumer::RingConsumer;
-use consumer::Told;
+use consumer::CompletedTold;
 use format::header;
 use format::input;
 use layout::Layout;
@@ -56,9 +56,9 @@ pub fn polled(p: Polled) -> Consumed {
     }
 }
 
-fn told(t: Told) -> Consumed {
+fn told(t: CompletedTold) -> Consumed {
     match t {
-        Told::Notify(b, c) => Consumed::said(c, Answer::one(answer::bit(b))),
-        Told::Refused(e, c) => Consumed::refused(c, e),
+        CompletedTold::Notify(b, c) => Consumed::said(c, Answer::one(answer::bit(b))),
+        CompletedTold::Refused(e, c) => Consumed::refused(c, e),
     }
 }
