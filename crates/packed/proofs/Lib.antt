@@ -6,3 +6,4 @@ pub mod Answers
 pub mod Polls
 pub mod Stack
 pub mod Reclaims
+pub mod Submits
