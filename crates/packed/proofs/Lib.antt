@@ -7,3 +7,4 @@ pub mod Polls
 pub mod Stack
 pub mod Reclaims
 pub mod Submits
+pub mod Completes
