@@ -8,3 +8,5 @@ pub mod Stack
 pub mod Reclaims
 pub mod Submits
 pub mod Completes
+pub mod Named
+pub mod Rollbacks
