@@ -10,9 +10,11 @@ use lib.ListN.{length, getD}
 use borrow.Author.Tests.{eq-eqb, ne-eqb, eqb-true, lt-ltb, le-ltb, lt-leb}
 use Rattle.base.proofs.Tests.{split}
 use Rattle.cursor.specs.declared.RingCursor.{RingCursor}
-use Rattle.cursor.specs.Cursor.{steps}
+use Rattle.cursor.specs.Cursor.{fresh, steps}
 use Rattle.desc.specs.declared.Descriptor.{Descriptor}
 use Rattle.desc.specs.Flags.{isAvail}
+use Rattle.event.specs.Event.{ENABLE}
+use Rattle.layout.specs.declared.Layout.{Layout}
 use Rattle.layout.specs.Layout.{badLayout, outside}
 use Rattle.consumer.specs.declared.RingConsumer.{RingConsumer}
 use Rattle.consumer.specs.declared.Checkpoint.{Checkpoint}
@@ -22,6 +24,7 @@ use Rattle.consumer.specs.Poll.{headRefusal, pastOf}
 use Rattle.consumer.specs.Complete.{completeRefusal, completedOf, tellOf}
 use Rattle.consumer.specs.Rollback.{handedRefusal, sameOf, staleOf, backOf}
 use Rattle.consumer.specs.Notices.{shadowOf}
+use Rattle.consumer.specs.Fresh.{freshOf}
 
 pub not-bad :
     (p : RingConsumer) → badLayout (p .layout) ≡ false → p .avail .head < p .layout .size → p .used .head < p .layout .size
@@ -145,3 +148,8 @@ pub shadow-is :
     → shadowOf p f ≡ record { layout = p .layout; avail = p .avail; used = p .used; inflight = p .inflight; shadow = f }
 unfolding shadowOf
 shadow-is p f = refl
+
+-- ---- a fresh record
+pub fresh-is : (l : Layout) → freshOf l ≡ record { layout = l; avail = fresh; used = fresh; inflight = 0; shadow = ENABLE }
+unfolding freshOf
+fresh-is l = refl

@@ -17,11 +17,11 @@ use Rattle.layout.specs.declared.Layout.{Layout}
 use Rattle.layout.specs.Layout.{layout, apart, tableBytes, badLayout, outside, valuesOf, openOf}
 
 -- one of two areas ends by the other's start
-pub Apart : ℕ → ℕ → ℕ → ℕ → Type 0
+abbrev pub Apart : ℕ → ℕ → ℕ → ℕ → Type 0
 Apart a n b m = (a + n ≤ b) ⊎ (b + m ≤ a)
 
 pub is-apart : (a n b m : ℕ) → apart a n b m ≡ true → Apart a n b m
-unfolding apart Apart
+unfolding apart
 is-apart a n b m e =
     split (leb (a + n) b)
     (λ l. inl (leb-true (a + n) b l))

@@ -175,13 +175,28 @@ module _ (l : Layout) (laid-out : badLayout l ≡ false) where
           let f = view size (l .table) (w .ring) in
           let g = view size (l .table) ring′ in
           record {
-            pu = k .pu; cu = k .cu + n; fa = k .ca; ca = k .ca; pa = k .pa;
-            cu-is = omega (arith, k .cu-is, tot-used ret u); fa-is = omega (arith, k .ca-is, k .fa-is, tots); ca-is = omega arith; pa-is = k .pa-is; room = k .room; begun = k .begun;
-            p-layout = k .p-layout; c-layout = k .c-layout; p-used = k .p-used;
+            pu = k .pu;
+            cu = k .cu + n;
+            fa = k .ca;
+            ca = k .ca;
+            pa = k .pa;
+            cu-is = omega (arith, k .cu-is, tot-used ret u);
+            fa-is = omega (arith, k .ca-is, k .fa-is, tots);
+            ca-is = omega arith;
+            pa-is = k .pa-is;
+            room = k .room;
+            begun = k .begun;
+            p-layout = k .p-layout;
+            c-layout = k .c-layout;
+            p-used = k .p-used;
             c-used = ap₂ (λ (m : ℕ) (c : RingCursor). steps m n c) (c-size l laid-out ret w q k) (k .c-used) ∙ sym (pos-add size (k .cu) n);
-            c-avail = k .c-avail; p-avail = k .p-avail; inflight = omega (arith, k .inflight, tots);
+            c-avail = k .c-avail;
+            p-avail = k .p-avail;
+            inflight = omega (arith, k .inflight, tots);
             whole = ap (outside l) (slot-length (l .table) (pos size (k .cu)) mark (w .ring)) ∙ k .whole;
-            ids-whole = k .ids-whole; counts-whole = k .counts-whole; held-whole = omega (arith, k .held-whole, length-set (w .held) id 0);
+            ids-whole = k .ids-whole;
+            counts-whole = k .counts-whole;
+            held-whole = omega (arith, k .held-whole, length-set (w .held) id 0);
             spelled =
                 spells-cong size f g (k .ca) (q .waiting) (λ p a b. later p (omega (arith, ahead)) (omega (arith, k .pa-is, k .room, k .cu-is)))
                 (subst (λ (x : ℕ). Spells size f x (q .waiting)) (sym (k .ca-is)) (spells-split size f (k .fa) (items (q .fresh)) (q .waiting) (k .spelled) .1));
@@ -198,7 +213,8 @@ module _ (l : Layout) (laid-out : badLayout l ≡ false) where
             once = λ y. omega (arith, k .once y, out .occ-is y, both-occ y (q .old) (q .fresh), occ-used y ret u);
             p-nums = λ y b. omega (arith, k .p-nums y b, out .slots-is y, both-slots y (q .old) (q .fresh), slots-used y ret u, ap (hit id y) out-n);
             c-nums = λ y b. omega (arith, k .c-nums y b, out .slots-is y, both-slots y (q .old) (q .fresh), at-clear (w .held) id y (omega (arith, low, k .held-whole)), ap (hit id y) out-n);
-            heights = k .heights; out-pos = k .out-pos;
+            heights = k .heights;
+            out-pos = k .out-pos;
             out-occ = λ y. omega (arith, k .out-occ y, out .occ-is y, both-occ y (q .old) (q .fresh), occ-used y ret u);
             out-slots = λ y. omega (arith, k .out-slots y, out .slots-is y, both-slots y (q .old) (q .fresh), slots-used y ret u, ap (hit id y) out-n);
             out-tot = omega (arith, k .out-tot, tots, tot-used ret u);

@@ -197,14 +197,46 @@ module _ (l : Layout) where
       unfolding next
       like-look a f =
           record {
-            pu = k .pu; cu = k .cu; fa = k .fa; ca = k .ca; pa = k .pa;
-            cu-is = k .cu-is; fa-is = k .fa-is; ca-is = k .ca-is; pa-is = k .pa-is; room = k .room; begun = k .begun;
-            p-layout = k .p-layout; c-layout = k .c-layout; p-used = k .p-used; c-used = k .c-used; c-avail = k .c-avail; p-avail = k .p-avail;
-            inflight = k .inflight; whole = k .whole; ids-whole = k .ids-whole; counts-whole = k .counts-whole; held-whole = k .held-whole;
-            spelled = k .spelled; returned = k .returned; rounds = k .rounds; unused = k .unused;
-            dones-are = k .dones-are; fine = k .fine; o-pos = k .o-pos; r-pos = k .r-pos; once = k .once; p-nums = k .p-nums; c-nums = k .c-nums;
-            heights = k .heights; out-pos = k .out-pos; out-occ = k .out-occ; out-slots = k .out-slots; out-tot = k .out-tot;
-            promise = f; checks = k .checks;
+            pu = k .pu;
+            cu = k .cu;
+            fa = k .fa;
+            ca = k .ca;
+            pa = k .pa;
+            cu-is = k .cu-is;
+            fa-is = k .fa-is;
+            ca-is = k .ca-is;
+            pa-is = k .pa-is;
+            room = k .room;
+            begun = k .begun;
+            p-layout = k .p-layout;
+            c-layout = k .c-layout;
+            p-used = k .p-used;
+            c-used = k .c-used;
+            c-avail = k .c-avail;
+            p-avail = k .p-avail;
+            inflight = k .inflight;
+            whole = k .whole;
+            ids-whole = k .ids-whole;
+            counts-whole = k .counts-whole;
+            held-whole = k .held-whole;
+            spelled = k .spelled;
+            returned = k .returned;
+            rounds = k .rounds;
+            unused = k .unused;
+            dones-are = k .dones-are;
+            fine = k .fine;
+            o-pos = k .o-pos;
+            r-pos = k .r-pos;
+            once = k .once;
+            p-nums = k .p-nums;
+            c-nums = k .c-nums;
+            heights = k .heights;
+            out-pos = k .out-pos;
+            out-occ = k .out-occ;
+            out-slots = k .out-slots;
+            out-tot = k .out-tot;
+            promise = f;
+            checks = k .checks;
           }
 
       -- a call that changes nothing of what the invariant speaks of: the shadows, and bytes in no slot
@@ -217,20 +249,44 @@ module _ (l : Layout) where
           let f = view size (l .table) (w .ring) in
           let g = view size (l .table) (v .ring) in
           record {
-            pu = k .pu; cu = k .cu; fa = k .fa; ca = k .ca; pa = k .pa;
-            cu-is = k .cu-is; fa-is = k .fa-is; ca-is = k .ca-is; pa-is = k .pa-is; room = omega (arith, k .room, pf); begun = k .begun;
-            p-layout = pl ∙ k .p-layout; c-layout = cl ∙ k .c-layout; p-used = pus ∙ k .p-used; c-used = cus ∙ k .c-used; c-avail = cav ∙ k .c-avail; p-avail = pav ∙ k .p-avail;
-            inflight = ci ∙ k .inflight; whole = ap (outside l) rl ∙ k .whole;
-            ids-whole = omega (arith, k .ids-whole, ap length is); counts-whole = omega (arith, k .counts-whole, ap length cs); held-whole = omega (arith, k .held-whole, ap length hs);
+            pu = k .pu;
+            cu = k .cu;
+            fa = k .fa;
+            ca = k .ca;
+            pa = k .pa;
+            cu-is = k .cu-is;
+            fa-is = k .fa-is;
+            ca-is = k .ca-is;
+            pa-is = k .pa-is;
+            room = omega (arith, k .room, pf);
+            begun = k .begun;
+            p-layout = pl ∙ k .p-layout;
+            c-layout = cl ∙ k .c-layout;
+            p-used = pus ∙ k .p-used;
+            c-used = cus ∙ k .c-used;
+            c-avail = cav ∙ k .c-avail;
+            p-avail = pav ∙ k .p-avail;
+            inflight = ci ∙ k .inflight;
+            whole = ap (outside l) rl ∙ k .whole;
+            ids-whole = omega (arith, k .ids-whole, ap length is);
+            counts-whole = omega (arith, k .counts-whole, ap length cs);
+            held-whole = omega (arith, k .held-whole, ap length hs);
             spelled = spells-cong size f g (k .fa) (items (q .fresh) ++ q .waiting) (λ p a b. vs p) (k .spelled);
             returned = returns-cong size f g (k .pu) ret (λ p a b. vs p) (k .r-pos) (k .returned);
             rounds = λ p a b. ap (λ (d : Descriptor). has (d .flags) AVAIL) (sym (vs p)) ∙ k .rounds p a b;
             unused = λ p a b. ap (λ (d : Descriptor). has (d .flags) USED) (sym (vs p)) ∙ k .unused p a b;
-            dones-are = k .dones-are; fine = k .fine; o-pos = k .o-pos; r-pos = k .r-pos;
+            dones-are = k .dones-are;
+            fine = k .fine;
+            o-pos = k .o-pos;
+            r-pos = k .r-pos;
             once = λ y. ap₂ (λ (h : ℕ) (s : List ℕ). occS y (take h s) + (occ y (W q) + (occ y (O q) + occ y (F q)) + occ y (ofUsed ret))) ph is ∙ k .once y;
             p-nums = λ y h. ap (λ (t : List ℕ). getD t y 0) cs ∙ k .p-nums y h;
             c-nums = λ y h. ap (λ (t : List ℕ). getD t y 0) hs ∙ k .c-nums y h;
-            heights = omega (arith, k .heights, ph); out-pos = k .out-pos; out-occ = k .out-occ; out-slots = k .out-slots; out-tot = k .out-tot;
+            heights = omega (arith, k .heights, ph);
+            out-pos = k .out-pos;
+            out-occ = k .out-occ;
+            out-slots = k .out-slots;
+            out-tot = k .out-tot;
             promise = λ i e. (omega (arith, k .promise i e .0, ph), ap₂ (λ (h : ℕ) (s : List ℕ). getD s (h - 1) 0) ph is ∙ k .promise i e .1);
             checks = k .checks;
           }

@@ -10,3 +10,6 @@ pub mod Submits
 pub mod Completes
 pub mod Named
 pub mod Rollbacks
+pub mod Asides
+pub mod First
+pub mod Packed

@@ -52,8 +52,12 @@ none-bad size t (x ∷ js) once ok =
     let s = hit-same x 1 in
     let o = ok x (omega (arith, times-cons x x js, s)) in
     bad-cons size t x js
-    ∙ simp (lt-leb size x (o .0), ne-eqb (getD t x 0) 0 (λ z. omega (arith, o .1, z)), named-not x js (omega (arith, once x, times-cons x x js, s)),
-    none-bad size t js (λ y. omega (arith, once y, times-cons y x js)) (λ y h. ok y (omega (arith, times-cons y x js, h))))
+    ∙ simp (
+      lt-leb size x (o .0),
+      ne-eqb (getD t x 0) 0 (λ z. omega (arith, o .1, z)),
+      named-not x js (omega (arith, once x, times-cons x x js, s)),
+      none-bad size t js (λ y. omega (arith, once y, times-cons y x js)) (λ y h. ok y (omega (arith, times-cons y x js, h))),
+    )
 
 -- ---- sums of lists that name the same
 
@@ -116,8 +120,7 @@ own-slots other (p ∷ ps) h =
     let n = slotsOf (p .item .chain) in
     let s = hit-same x 1 in
     let a : slots x other ≡ 0 = slots-none x other (omega (arith, h x, s)) in
-    let b : slots x (ofItems (items ps)) ≡ 0 = slots-none x (ofItems (items ps)) (omega (arith, h x, s)) in
-    (
+    let b : slots x (ofItems (items ps)) ≡ 0 = slots-none x (ofItems (items ps)) (omega (arith, h x, s)) in (
       omega (arith, a, b, hit-same x n),
       moved ps (own-slots (ofItem (p .item) ∷ other) ps (λ y. omega (arith, h y))),
     )
@@ -135,8 +138,7 @@ total-polls t (p ∷ ps) h = total-cons t (p .item .id) (ids ps) ∙ omega (arit
 
 -- ---- the entries behind it
 pub cleared-at : (t js : List ℕ) (y : ℕ) → y < length t → ((times y js ≡ 0 → ⊥) → getD (clearedOf t js) y 0 ≡ 0) × (times y js ≡ 0 → getD (clearedOf t js) y 0 ≡ getD t y 0)
-cleared-at t js y b =
-    (
-      (λ n. cleared-named t js y b (named-is y js (omega (arith, n)))),
-      (λ z. cleared-other t js y (named-not y js z)),
-    )
+cleared-at t js y b = (
+  (λ n. cleared-named t js y b (named-is y js (omega (arith, n)))),
+  (λ z. cleared-other t js y (named-not y js z)),
+)

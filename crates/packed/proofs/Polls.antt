@@ -77,9 +77,9 @@ module _ (l : Layout) (laid-out : badLayout l ≡ false) where
           equal = fi .1 .0;
           within = fi .1 .1;
           slots = λ j h.
-          subst (λ (m : Layout). slotOf (m .table) (steps (m .size) j (w .cons .avail)) (w .ring) ≡ markAvail (elementAt x j) (steps (m .size) j (w .cons .avail) .wrap)) (sym (k .c-layout))
-          (subst (λ (c : RingCursor). slotOf (l .table) (steps size j c) (w .ring) ≡ markAvail (elementAt x j) (steps size j c .wrap)) (sym (k .c-avail))
-          (subst (λ (c : RingCursor). slotOf (l .table) c (w .ring) ≡ markAvail (elementAt x j) (c .wrap)) (pos-add size (k .ca) j) (sp .0 j h)));
+              subst (λ (m : Layout). slotOf (m .table) (steps (m .size) j (w .cons .avail)) (w .ring) ≡ markAvail (elementAt x j) (steps (m .size) j (w .cons .avail) .wrap)) (sym (k .c-layout))
+              (subst (λ (c : RingCursor). slotOf (l .table) (steps size j c) (w .ring) ≡ markAvail (elementAt x j) (steps size j c .wrap)) (sym (k .c-avail))
+              (subst (λ (c : RingCursor). slotOf (l .table) c (w .ring) ≡ markAvail (elementAt x j) (c .wrap)) (pos-add size (k .ca) j) (sp .0 j h)));
         }
 
     -- a refused poll leaves the world as it was
@@ -211,25 +211,48 @@ module _ (l : Layout) (laid-out : badLayout l ≡ false) where
             ap₂ (λ (a′ : List Item) (b′ : List Item). a′ ++ b′) (items-append (q .fresh) (pl ∷ [])) rest-is
             ∙ append-assoc (items (q .fresh)) (x ∷ []) xs ∙ ap (λ (ws : List Item). items (q .fresh) ++ ws) (sym e) in
             record {
-              pu = k .pu; cu = k .cu; fa = k .fa; ca = k .ca + n; pa = k .pa;
-              cu-is = k .cu-is; fa-is = k .fa-is; ca-is = omega (arith, k .ca-is, tot-poll (q .fresh) pl); pa-is = omega (arith, k .pa-is, tot-w, rest-tot); room = k .room; begun = k .begun;
-              p-layout = k .p-layout; c-layout = ap (λ (c : RingConsumer). c .layout) g ∙ k .c-layout; p-used = k .p-used; c-used = ap (λ (c : RingConsumer). c .used) g ∙ k .c-used;
+              pu = k .pu;
+              cu = k .cu;
+              fa = k .fa;
+              ca = k .ca + n;
+              pa = k .pa;
+              cu-is = k .cu-is;
+              fa-is = k .fa-is;
+              ca-is = omega (arith, k .ca-is, tot-poll (q .fresh) pl);
+              pa-is = omega (arith, k .pa-is, tot-w, rest-tot);
+              room = k .room;
+              begun = k .begun;
+              p-layout = k .p-layout;
+              c-layout = ap (λ (c : RingConsumer). c .layout) g ∙ k .c-layout;
+              p-used = k .p-used;
+              c-used = ap (λ (c : RingConsumer). c .used) g ∙ k .c-used;
               c-avail =
                   ap (λ (c : RingConsumer). c .avail) g
                   ∙ ap₂ (λ (m : ℕ) (c : RingCursor). steps m n c) (c-size l laid-out ret w q k) (k .c-avail) ∙ sym (pos-add size (k .ca) n);
               p-avail = k .p-avail;
               inflight = ap (λ (c : RingConsumer). c .inflight) g ∙ omega (arith, k .inflight, tot-poll (q .fresh) pl);
-              whole = k .whole; ids-whole = k .ids-whole; counts-whole = k .counts-whole; held-whole = omega (arith, k .held-whole, length-set (w .held) (x .id) n);
-              spelled = subst (Spells size (view size (l .table) (w .ring)) (k .fa)) (sym moved) (k .spelled); returned = k .returned; rounds = k .rounds; unused = k .unused;
-              dones-are = k .dones-are; fine = subst (All Fine) (sym moved) (k .fine); o-pos = k .o-pos; r-pos = k .r-pos;
+              whole = k .whole;
+              ids-whole = k .ids-whole;
+              counts-whole = k .counts-whole;
+              held-whole = omega (arith, k .held-whole, length-set (w .held) (x .id) n);
+              spelled = subst (Spells size (view size (l .table) (w .ring)) (k .fa)) (sym moved) (k .spelled);
+              returned = k .returned;
+              rounds = k .rounds;
+              unused = k .unused;
+              dones-are = k .dones-are;
+              fine = subst (All Fine) (sym moved) (k .fine);
+              o-pos = k .o-pos;
+              r-pos = k .r-pos;
               once = λ y. omega (arith, k .once y, occ-w y, rest-occ y, occ-poll y (q .fresh) pl);
               p-nums = λ y h. omega (arith, k .p-nums y h, slots-w y, rest-slots y, slots-poll y (q .fresh) pl);
               c-nums = λ y h. omega (arith, k .c-nums y h, slots-poll y (q .fresh) pl, at-set (w .held) (x .id) n y (omega (arith, low, k .held-whole)) unheld);
-              heights = k .heights; out-pos = k .out-pos;
+              heights = k .heights;
+              out-pos = k .out-pos;
               out-occ = λ y. omega (arith, k .out-occ y, occ-w y, rest-occ y, occ-poll y (q .fresh) pl);
               out-slots = λ y. omega (arith, k .out-slots y, slots-w y, rest-slots y, slots-poll y (q .fresh) pl);
               out-tot = omega (arith, k .out-tot, tot-w, rest-tot, tot-poll (q .fresh) pl);
-              promise = k .promise; checks = k .checks;
+              promise = k .promise;
+              checks = k .checks;
             }
 
         poll-gives :

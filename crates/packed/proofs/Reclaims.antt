@@ -107,8 +107,7 @@ module _ (l : Layout) (laid-out : badLayout l ≡ false) where
 
     alone : (slots id (W q) ≡ 0) × (slots id (O q) ≡ 0) × (slots id (F q) ≡ 0) × (slots id (ofUsed us) ≡ 0)
     alone =
-        let h = hit-same id 1 in
-        (
+        let h = hit-same id 1 in (
           slots-none id (W q) (omega (arith, k .once id, h, one-le size id)),
           slots-none id (O q) (omega (arith, k .once id, h, one-le size id)),
           slots-none id (F q) (omega (arith, k .once id, h, one-le size id)),
@@ -162,25 +161,48 @@ module _ (l : Layout) (laid-out : badLayout l ≡ false) where
         let f : freedOf (w .prod) (u .n) .free ≡ w .prod .free + u .n = ap (λ (p : RingProducer). p .free) g in
         let n = left-n in
         record {
-          pu = k .pu + u .n; cu = k .cu; fa = k .fa; ca = k .ca; pa = k .pa;
-          cu-is = omega (arith, k .cu-is); fa-is = k .fa-is; ca-is = k .ca-is; pa-is = k .pa-is; room = omega (arith, k .room, f); begun = omega (arith, k .begun);
-          p-layout = ap (λ (p : RingProducer). p .layout) g ∙ k .p-layout; c-layout = k .c-layout;
+          pu = k .pu + u .n;
+          cu = k .cu;
+          fa = k .fa;
+          ca = k .ca;
+          pa = k .pa;
+          cu-is = omega (arith, k .cu-is);
+          fa-is = k .fa-is;
+          ca-is = k .ca-is;
+          pa-is = k .pa-is;
+          room = omega (arith, k .room, f);
+          begun = omega (arith, k .begun);
+          p-layout = ap (λ (p : RingProducer). p .layout) g ∙ k .p-layout;
+          c-layout = k .c-layout;
           p-used = ap (λ (p : RingProducer). p .used) g ∙ ap₂ (λ (m : ℕ) (c : RingCursor). steps m (u .n) c) s (k .p-used) ∙ sym (pos-add size (k .pu) (u .n));
-          c-used = k .c-used; c-avail = k .c-avail; p-avail = ap (λ (p : RingProducer). p .avail) g ∙ k .p-avail;
-          inflight = k .inflight; whole = k .whole;
-          ids-whole = omega (arith, k .ids-whole, length-set (w .ids) (w .prod .height) id); counts-whole = omega (arith, k .counts-whole, length-set (w .counts) id 0); held-whole = k .held-whole;
-          spelled = k .spelled; returned = k .returned .1; rounds = k .rounds; unused = k .unused;
-          dones-are = ap tail (k .dones-are); fine = k .fine; o-pos = k .o-pos; r-pos = k .r-pos .1;
+          c-used = k .c-used;
+          c-avail = k .c-avail;
+          p-avail = ap (λ (p : RingProducer). p .avail) g ∙ k .p-avail;
+          inflight = k .inflight;
+          whole = k .whole;
+          ids-whole = omega (arith, k .ids-whole, length-set (w .ids) (w .prod .height) id);
+          counts-whole = omega (arith, k .counts-whole, length-set (w .counts) id 0);
+          held-whole = k .held-whole;
+          spelled = k .spelled;
+          returned = k .returned .1;
+          rounds = k .rounds;
+          unused = k .unused;
+          dones-are = ap tail (k .dones-are);
+          fine = k .fine;
+          o-pos = k .o-pos;
+          r-pos = k .r-pos .1;
           once = λ y.
-          ap (λ (m : ℕ). occS y (take m (set (w .ids) (w .prod .height) id)) + (occ y (W q) + (occ y (O q) + occ y (F q)) + occ y (ofUsed us))) h
-          ∙ omega (arith, k .once y, occ-push y (w .ids) (w .prod .height) id (omega (arith, k .heights, left .len-is, k .ids-whole)));
+              ap (λ (m : ℕ). occS y (take m (set (w .ids) (w .prod .height) id)) + (occ y (W q) + (occ y (O q) + occ y (F q)) + occ y (ofUsed us))) h
+              ∙ omega (arith, k .once y, occ-push y (w .ids) (w .prod .height) id (omega (arith, k .heights, left .len-is, k .ids-whole)));
           p-nums = λ y b. omega (arith, k .p-nums y b, at-clear (w .counts) id y (omega (arith, low, k .counts-whole)), ap (hit id y) count);
           c-nums = k .c-nums;
-          heights = omega (arith, k .heights, h, left .len-is); out-pos = left .pos-is (k .out-pos);
+          heights = omega (arith, k .heights, h, left .len-is);
+          out-pos = left .pos-is (k .out-pos);
           out-occ = λ y. omega (arith, k .out-occ y, left .occ-is y);
           out-slots = λ y. omega (arith, k .out-slots y, left .slots-is y, ap (hit id y) n);
           out-tot = omega (arith, k .out-tot, left .tot-is, n);
-          promise = λ i e. absurd (no-promise i e); checks = k .checks;
+          promise = λ i e. absurd (no-promise i e);
+          checks = k .checks;
         }
       where
         no-promise : (i : ℕ) → _≡_ {A = List ℕ} [] (i ∷ []) → ⊥

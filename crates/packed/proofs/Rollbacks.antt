@@ -62,16 +62,47 @@ module _ (l : Layout) (laid-out : badLayout l ≡ false) where
     unfolding next
     mark-like =
         record {
-          pu = k .pu; cu = k .cu; fa = k .fa; ca = k .ca; pa = k .pa;
-          cu-is = k .cu-is; fa-is = k .fa-is; ca-is = k .ca-is; pa-is = k .pa-is; room = k .room; begun = k .begun;
-          p-layout = k .p-layout; c-layout = k .c-layout; p-used = k .p-used; c-used = k .c-used; c-avail = k .c-avail; p-avail = k .p-avail;
-          inflight = k .inflight; whole = k .whole; ids-whole = k .ids-whole; counts-whole = k .counts-whole; held-whole = k .held-whole;
-          spelled = k .spelled; returned = k .returned; rounds = k .rounds; unused = k .unused;
-          dones-are = k .dones-are; fine = k .fine; o-pos = k .o-pos; r-pos = k .r-pos; once = k .once; p-nums = k .p-nums; c-nums = k .c-nums;
-          heights = k .heights; out-pos = k .out-pos; out-occ = k .out-occ; out-slots = k .out-slots; out-tot = k .out-tot; promise = k .promise;
+          pu = k .pu;
+          cu = k .cu;
+          fa = k .fa;
+          ca = k .ca;
+          pa = k .pa;
+          cu-is = k .cu-is;
+          fa-is = k .fa-is;
+          ca-is = k .ca-is;
+          pa-is = k .pa-is;
+          room = k .room;
+          begun = k .begun;
+          p-layout = k .p-layout;
+          c-layout = k .c-layout;
+          p-used = k .p-used;
+          c-used = k .c-used;
+          c-avail = k .c-avail;
+          p-avail = k .p-avail;
+          inflight = k .inflight;
+          whole = k .whole;
+          ids-whole = k .ids-whole;
+          counts-whole = k .counts-whole;
+          held-whole = k .held-whole;
+          spelled = k .spelled;
+          returned = k .returned;
+          rounds = k .rounds;
+          unused = k .unused;
+          dones-are = k .dones-are;
+          fine = k .fine;
+          o-pos = k .o-pos;
+          r-pos = k .r-pos;
+          once = k .once;
+          p-nums = k .p-nums;
+          c-nums = k .c-nums;
+          heights = k .heights;
+          out-pos = k .out-pos;
+          out-occ = k .out-occ;
+          out-slots = k .out-slots;
+          out-tot = k .out-tot;
+          promise = k .promise;
           checks =
-              all-append (CheckOk size (q .comps) (k .cu) (tot (O q))) (q .marks) (markOf q (checkpointOf (w .cons)) ∷ []) (k .checks)
-              (
+              all-append (CheckOk size (q .comps) (k .cu) (tot (O q))) (q .marks) (markOf q (checkpointOf (w .cons)) ∷ []) (k .checks) (
                 (
                   le-refl (q .comps),
                   λ e. (k .c-used, (k .inflight, k .c-avail ∙ ap (pos size) (omega (arith, k .ca-is, k .fa-is, k .inflight)))),
@@ -155,19 +186,17 @@ module _ (l : Layout) (laid-out : badLayout l ≡ false) where
             → All (λ (p : Poll). 0 < occ (p .item .id) (ofItems (items back))) qs → All (λ (p : Poll). getD (w .held) (p .item .id) 0 ≡ slotsOf (p .item .chain)) qs
         entries [] s t = tt
         entries (p ∷ qs) s t =
-            let low : p .item .id < size = one-low size (p .item .id) (omega (arith, k .once (p .item .id), occs (p .item .id), t .0)) in
-            (
+            let low : p .item .id < size = one-low size (p .item .id) (omega (arith, k .once (p .item .id), occs (p .item .id), t .0)) in (
               omega (arith, k .c-nums (p .item .id) low, slotss (p .item .id), both-slots (p .item .id) (q .old) up, s .0),
               entries qs (s .1) (t .1),
             )
 
         stand-in : (ps : List Poll) → ((y : ℕ) → occ y (ofItems (items ps)) ≤ occ y (ofItems (items back))) → All (λ (p : Poll). 0 < occ (p .item .id) (ofItems (items back))) ps
         stand-in [] h = tt
-        stand-in (p ∷ ps) h =
-            (
-              omega (arith, h (p .item .id), hit-same (p .item .id) 1),
-              stand-in ps (λ y. omega (arith, h y)),
-            )
+        stand-in (p ∷ ps) h = (
+          omega (arith, h (p .item .id), hit-same (p .item .id) 1),
+          stand-in ps (λ y. omega (arith, h y)),
+        )
 
         total : totalOf (w .held) js ≡ tot (ofItems (items back))
         total =
@@ -228,23 +257,46 @@ module _ (l : Layout) (laid-out : badLayout l ≡ false) where
             let again : items up ++ (items back ++ q .waiting) ≡ items (q .fresh) ++ q .waiting =
             sym (append-assoc (items up) (items back) (q .waiting)) ∙ ap (λ (xs : List Item). xs ++ q .waiting) (sym (items-append up back) ∙ ap items parts) in
             record {
-              pu = k .pu; cu = k .cu; fa = k .fa; ca = k .cu + cp .inflight; pa = k .pa;
-              cu-is = k .cu-is; fa-is = k .fa-is; ca-is = omega (arith, k .fa-is, inf, tots);
-              pa-is = omega (arith, k .pa-is, k .ca-is, k .fa-is, inf, tots, items-tot (items back) (q .waiting)); room = k .room; begun = k .begun;
-              p-layout = k .p-layout; c-layout = k .c-layout; p-used = k .p-used; c-used = k .c-used;
+              pu = k .pu;
+              cu = k .cu;
+              fa = k .fa;
+              ca = k .cu + cp .inflight;
+              pa = k .pa;
+              cu-is = k .cu-is;
+              fa-is = k .fa-is;
+              ca-is = omega (arith, k .fa-is, inf, tots);
+              pa-is = omega (arith, k .pa-is, k .ca-is, k .fa-is, inf, tots, items-tot (items back) (q .waiting));
+              room = k .room;
+              begun = k .begun;
+              p-layout = k .p-layout;
+              c-layout = k .c-layout;
+              p-used = k .p-used;
+              c-used = k .c-used;
               c-avail = sym (ap (λ (x : Checkpoint). x .avail) v) ∙ c .1 .1 ∙ ap (λ (x : Checkpoint). pos size (k .cu + x .inflight)) v;
-              p-avail = k .p-avail; inflight = omega (arith, inf, tots); whole = k .whole; ids-whole = k .ids-whole; counts-whole = k .counts-whole;
+              p-avail = k .p-avail;
+              inflight = omega (arith, inf, tots);
+              whole = k .whole;
+              ids-whole = k .ids-whole;
+              counts-whole = k .counts-whole;
               held-whole = omega (arith, k .held-whole, cleared-length (w .held) js);
-              spelled = subst (Spells size (view size (l .table) (w .ring)) (k .fa)) (sym again) (k .spelled); returned = k .returned; rounds = k .rounds; unused = k .unused;
-              dones-are = k .dones-are; fine = subst (All Fine) (sym again) (k .fine); o-pos = k .o-pos; r-pos = k .r-pos;
+              spelled = subst (Spells size (view size (l .table) (w .ring)) (k .fa)) (sym again) (k .spelled);
+              returned = k .returned;
+              rounds = k .rounds;
+              unused = k .unused;
+              dones-are = k .dones-are;
+              fine = subst (All Fine) (sym again) (k .fine);
+              o-pos = k .o-pos;
+              r-pos = k .r-pos;
               once = λ y. omega (arith, k .once y, occs y, items-occ y (items back) (q .waiting));
               p-nums = λ y h. omega (arith, k .p-nums y h, slotss y, items-slots y (items back) (q .waiting));
               c-nums = λ y h. left-at y h;
-              heights = k .heights; out-pos = k .out-pos;
+              heights = k .heights;
+              out-pos = k .out-pos;
               out-occ = λ y. omega (arith, k .out-occ y, occs y, items-occ y (items back) (q .waiting));
               out-slots = λ y. omega (arith, k .out-slots y, slotss y, items-slots y (items back) (q .waiting));
               out-tot = omega (arith, k .out-tot, tots, items-tot (items back) (q .waiting));
-              promise = k .promise; checks = k .checks;
+              promise = k .promise;
+              checks = k .checks;
             }
           where
             left-at : (y : ℕ) → y < size → getD (clearedOf (w .held) js) y 0 ≡ slots y (O q) + slots y (ofItems (items up))
@@ -273,13 +325,12 @@ module _ (l : Layout) (laid-out : badLayout l ≡ false) where
           let a = both-low t in
           let z = handed-goes (w .cons) cp (length (w .held)) r (a .0) (a .1) (omega (arith, s, k .held-whole)) 0 in
           split (badIds (w .cons .layout .size) (w .held) js || staleOf (w .cons) cp (totalOf (w .held) js))
-          (λ bad. roll-no 9 true (omega arith) (rollback-refused (w .cons) (w .held) cp js z bad) t
-          (
+          (λ bad. roll-no 9 true (omega arith) (rollback-refused (w .cons) (w .held) cp js z bad) t (
             (
               refl,
               λ ua.
-              let u = ua .undo in
-              true-false (sym bad ∙ simp (ap (λ (m : ℕ). badIds m (w .held) js) s ∙ none-bad-now u, stands-current u (ua .stand))),
+                  let u = ua .undo in
+                  true-false (sym bad ∙ simp (ap (λ (m : ℕ). badIds m (w .held) js) s ∙ none-bad-now u, stands-current u (ua .stand))),
             ),
             (ret, like-look l laid-out ret w q k (said.refused (said.rollback cp js) true 9) (k .promise)),
           ))

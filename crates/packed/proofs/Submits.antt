@@ -167,13 +167,28 @@ module _ (l : Layout) (laid-out : badLayout l ≡ false) where
           let here : k .fa + tot (ofItems (items (q .fresh) ++ q .waiting)) ≡ k .pa = omega (arith, items-tot (items (q .fresh)) (q .waiting), k .ca-is, k .pa-is) in
           let gd = good (length (c .addrs)) (length (c .lens)) (c .readable) fits-chain in
           record {
-            pu = k .pu; cu = k .cu; fa = k .fa; ca = k .ca; pa = k .pa + n;
-            cu-is = k .cu-is; fa-is = k .fa-is; ca-is = k .ca-is; pa-is = omega (arith, k .pa-is, tot-item (q .waiting) it); room = omega (arith, k .room, enough); begun = k .begun;
-            p-layout = k .p-layout; c-layout = k .c-layout; p-used = k .p-used; c-used = k .c-used; c-avail = k .c-avail;
+            pu = k .pu;
+            cu = k .cu;
+            fa = k .fa;
+            ca = k .ca;
+            pa = k .pa + n;
+            cu-is = k .cu-is;
+            fa-is = k .fa-is;
+            ca-is = k .ca-is;
+            pa-is = omega (arith, k .pa-is, tot-item (q .waiting) it);
+            room = omega (arith, k .room, enough);
+            begun = k .begun;
+            p-layout = k .p-layout;
+            c-layout = k .c-layout;
+            p-used = k .p-used;
+            c-used = k .c-used;
+            c-avail = k .c-avail;
             p-avail = ap₂ (λ (m : ℕ) (x : RingCursor). steps m n x) s (k .p-avail) ∙ sym (pos-add size (k .pa) n);
             inflight = k .inflight;
             whole = ap (outside l) (submit-length (w .prod) (w .ring) (w .ids) (w .counts) (c .addrs) (c .lens) (c .readable) accepted) ∙ k .whole;
-            ids-whole = k .ids-whole; counts-whole = omega (arith, k .counts-whole, length-set (w .counts) top n); held-whole = k .held-whole;
+            ids-whole = k .ids-whole;
+            counts-whole = omega (arith, k .counts-whole, length-set (w .counts) top n);
+            held-whole = k .held-whole;
             spelled =
                 subst (Spells size g (k .fa)) (append-assoc (items (q .fresh)) (q .waiting) (it ∷ []))
                 (spells-append size g (k .fa) (items (q .fresh) ++ q .waiting) (it ∷ [])
@@ -185,19 +200,22 @@ module _ (l : Layout) (laid-out : badLayout l ≡ false) where
                 (λ p a b. old p (omega (arith, k .cu-is, k .fa-is, k .ca-is, k .pa-is)) (omega (arith, k .room, enough))) (k .r-pos) (k .returned);
             rounds = λ p a b. flags-at AVAIL (round size) (λ r d e. spell-flags size g (k .pa) it new r d e .0) p a b (λ h. k .rounds p (omega arith) h);
             unused = λ p a b.
-            flags-at USED (λ (r : ℕ). not (round size r)) (λ r d e. spell-flags size g (k .pa) it new r d e .1) p (omega (arith, k .room, k .cu-is, enough)) b (λ h. k .unused p a h);
+                flags-at USED (λ (r : ℕ). not (round size r)) (λ r d e. spell-flags size g (k .pa) it new r d e .1) p (omega (arith, k .room, k .cu-is, enough)) b (λ h. k .unused p a h);
             dones-are = k .dones-are;
             fine = subst (All Fine) (append-assoc (items (q .fresh)) (q .waiting) (it ∷ [])) (all-append Fine (items (q .fresh) ++ q .waiting) (it ∷ []) (k .fine) ((some-elements, (gd .equal, gd .within)), tt));
-            o-pos = k .o-pos; r-pos = k .r-pos;
+            o-pos = k .o-pos;
+            r-pos = k .r-pos;
             once = λ y. omega (arith, k .once y, popped l laid-out ret w q k some-left y, occ-item y (q .waiting) it);
             p-nums = λ y b.
-            omega (arith, k .p-nums y b, slots-item y (q .waiting) it, at-set (w .counts) top n y (omega (arith, top-low l laid-out ret w q k some-left, k .counts-whole)) (top-count l laid-out ret w q k some-left));
+                omega (arith, k .p-nums y b, slots-item y (q .waiting) it, at-set (w .counts) top n y (omega (arith, top-low l laid-out ret w q k some-left, k .counts-whole)) (top-count l laid-out ret w q k some-left));
             c-nums = k .c-nums;
-            heights = omega (arith, k .heights, some-left, length-append (q .out) (it ∷ [])); out-pos = pos-snoc (q .out) it (k .out-pos) some-elements;
+            heights = omega (arith, k .heights, some-left, length-append (q .out) (it ∷ []));
+            out-pos = pos-snoc (q .out) it (k .out-pos) some-elements;
             out-occ = λ y. omega (arith, k .out-occ y, occ-item y (q .waiting) it, occ-item y (q .out) it);
             out-slots = λ y. omega (arith, k .out-slots y, slots-item y (q .waiting) it, slots-item y (q .out) it);
             out-tot = omega (arith, k .out-tot, tot-item (q .waiting) it, tot-item (q .out) it);
-            promise = λ i e. absurd (no-promise i e); checks = k .checks;
+            promise = λ i e. absurd (no-promise i e);
+            checks = k .checks;
           }
         where
           no-promise : (i : ℕ) → _≡_ {A = List ℕ} [] (i ∷ []) → ⊥
@@ -205,8 +223,7 @@ module _ (l : Layout) (laid-out : badLayout l ≡ false) where
 
       submit-gives : Good l q (saysSubmitted c (submitsOf w c .answer)) (afterMade w (submitsOf w c))
       submit-gives =
-          good-by l q _ (said.submitted it) _ submit-world (ap (λ (o : Outcome). saysSubmitted c (o .answer)) is-submitted) world-is
-          (
+          good-by l q _ (said.submitted it) _ submit-world (ap (λ (o : Outcome). saysSubmitted c (o .answer)) is-submitted) world-is (
             (
               top-low l laid-out ret w q k some-left,
               (

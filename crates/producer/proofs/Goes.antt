@@ -11,9 +11,11 @@ use borrow.Author.Tests.{eq-eqb, ne-eqb, eqb-true, lt-ltb, le-ltb, lt-leb}
 use Rattle.base.specs.Answer.{Answer, done, refused}
 use Rattle.base.proofs.Tests.{split}
 use Rattle.cursor.specs.declared.RingCursor.{RingCursor}
-use Rattle.cursor.specs.Cursor.{steps}
+use Rattle.cursor.specs.Cursor.{fresh, steps}
 use Rattle.desc.specs.declared.Descriptor.{Descriptor}
 use Rattle.desc.specs.Flags.{isUsed}
+use Rattle.event.specs.Event.{ENABLE}
+use Rattle.layout.specs.declared.Layout.{Layout}
 use Rattle.layout.specs.Layout.{badLayout, outside}
 use Rattle.chain.specs.Chain.{badChain}
 use Rattle.producer.specs.declared.RingProducer.{RingProducer}
@@ -23,6 +25,7 @@ use Rattle.producer.specs.Submit.{topOf, submitRefusal, takenOf, submitt
 use Rattle.producer.specs.Tell.{tellOf}
 use Rattle.producer.specs.Poll.{pollRefusal, freedOf, polledOf, nextRefusal}
 use Rattle.producer.specs.Notices.{bytesRefusal, sinceRefusal, shadowOf}
+use Rattle.producer.specs.Fresh.{freshOf}
 
 pub not-bad :
     (p : RingProducer) → badLayout (p .layout) ≡ false → p .avail .head < p .layout .size → p .used .head < p .layout .size
@@ -169,3 +172,8 @@ module _ (old : RingCursor) (o : Outcome) where
   pub tell-counts : tellOf old o .counts ≡ o .counts
   unfolding tellOf
   tell-counts = refl
+
+-- ---- a fresh record
+pub fresh-is : (l : Layout) → freshOf l ≡ record { layout = l; avail = fresh; used = fresh; free = l .size; height = l .size; shadow = ENABLE }
+unfolding freshOf
+fresh-is l = refl

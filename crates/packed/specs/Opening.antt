@@ -1,0 +1,32 @@
+-- "Take two fresh ends over one zeroed ring": two accepted openings, and the world after them.
+use Prim.Native.Nat.{ℕ, _+_, _*_, _<_}
+use mathlib.Core.Path.{_≡_}
+use mathlib.Core.List.{List}
+use lib.ListN.{getD}
+use Rattle.layout.specs.Layout.{layout}
+use Rattle.producer.specs.Fresh as made
+use Rattle.consumer.specs.Fresh as taken
+use Rattle.packed.specs.Machine.{World}
+
+module _ (size table driver device : ℕ) (ring ids counts held : List ℕ) where
+  -- both openings are accepted: any geometry that they take, in bytes of any length, with tables of any first contents and any length that
+  -- they take
+  pub record Opening : Type 0 where
+    pub producer : made.openOf size table driver device ring ids counts .answer .number ≡ 0
+    pub consumer : taken.openOf size table driver device ring held .answer .number ≡ 0
+    -- "over one zeroed ring": the three areas are zero; what else is in the bytes is of no matter
+    pub table-zero : (k : ℕ) → k < size * 16 → getD ring (table + k) 0 ≡ 0
+    pub driver-zero : (k : ℕ) → k < 4 → getD ring (driver + k) 0 ≡ 0
+    pub device-zero : (k : ℕ) → k < 4 → getD ring (device + k) 0 ≡ 0
+
+  -- each end has the record that its opening answered (the fresh one of that geometry) and the tables as it left them
+  abbrev pub openedWorld : World
+  openedWorld =
+      record {
+        prod = made.freshOf (layout size table driver device);
+        ids = made.openOf size table driver device ring ids counts .ids;
+        counts = made.openOf size table driver device ring ids counts .counts;
+        cons = taken.freshOf (layout size table driver device);
+        held = taken.openOf size table driver device ring held .counts;
+        ring = ring;
+      }
