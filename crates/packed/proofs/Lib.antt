@@ -13,3 +13,5 @@ pub mod Rollbacks
 pub mod Asides
 pub mod First
 pub mod Packed
+pub mod Astray
+pub mod Promises
