@@ -12,17 +12,13 @@ use Rattle.base.proofs.Tests.{by-lt, by-eq}
 use Rattle.undo.specs.Undo.{named, badIds, totalOf, clearedOf}
 use Rattle.undo.proofs.Laws.{named-none, named-cons, bad-none, bad-cons, total-none, total-cons, cleared-other, cleared-named}
 use Rattle.queue.specs.History.{Chain, Item, Poll, slotsOf, items, ids, times}
-use Rattle.queue.proofs.Listing.{All}
-use Rattle.packed.proofs.Counts.{Held, ofItem, ofItems, hit, occ, slots, tot, hit-same, hit-other, slots-none}
+use Rattle.queue.proofs.Listing.{All, one, times-cons, one-same, one-other, less, less-times}
+use Rattle.packed.proofs.Counts.{Held, ofItem, ofItems, hit, occ, slots, tot, hit-same, slots-none}
 
 pub occ-times : (y : ℕ) (ps : List Poll) → occ y (ofItems (items ps)) ≡ times y (ids ps)
 unfolding hit
 occ-times y [] = refl
 occ-times y (p ∷ ps) = ap (λ (n : ℕ). cond (eqb (p .item .id) y) 1 0 + n) (occ-times y ps)
-
-times-cons : (y x : ℕ) (xs : List ℕ) → times y (x ∷ xs) ≡ hit x y 1 + times y xs
-unfolding hit
-times-cons y x xs = refl
 
 -- ---- named
 
@@ -34,7 +30,7 @@ named-not y (x ∷ js) e =
     ∙ simp (ne-eqb y x (λ r. go r), named-not y js (omega (arith, t, e)))
   where
     go : y ≡ x → ⊥
-    go r = omega (arith, times-cons y x js, e, subst (λ (z : ℕ). hit z y 1 ≡ 1) r (hit-same y 1))
+    go r = omega (arith, times-cons y x js, e, subst (λ (z : ℕ). one z y ≡ 1) r (one-same y))
 
 pub named-is : (y : ℕ) (js : List ℕ) → 0 < times y js → named y js ≡ true
 named-is y [] h = absurd (omega arith)
@@ -42,14 +38,14 @@ named-is y (x ∷ js) h =
     by-eq y x
     (λ e. named-cons y x js ∙ simp (eq-eqb y x e))
     (λ e. named-cons y x js
-    ∙ simp (ne-eqb y x e, named-is y js (omega (arith, times-cons y x js, h, hit-other x y 1 (λ r. e (sym r))))))
+    ∙ simp (ne-eqb y x e, named-is y js (omega (arith, times-cons y x js, h, one-other x y (λ r. e (sym r))))))
 
 -- ---- no ID is bad: each is the ring's, has a count, and stands once
 pub none-bad :
     (size : ℕ) (t js : List ℕ) → ((y : ℕ) → times y js ≤ 1) → ((y : ℕ) → 0 < times y js → (y < size) × (0 < getD t y 0)) → badIds size t js ≡ false
 none-bad size t [] once ok = bad-none size t
 none-bad size t (x ∷ js) once ok =
-    let s = hit-same x 1 in
+    let s = one-same x in
     let o = ok x (omega (arith, times-cons x x js, s)) in
     bad-cons size t x js
     ∙ simp (
@@ -61,52 +57,31 @@ none-bad size t (x ∷ js) once ok =
 
 -- ---- sums of lists that name the same
 
--- a list without the first of a number
-dropped : ℕ → List ℕ → List ℕ
-dropped x [] = []
-dropped x (y ∷ ys) = cond (eqb y x) ys (y ∷ dropped x ys)
-
-dropped-times : (x y : ℕ) (ks : List ℕ) → 0 < times x ks → times y ks ≡ hit x y 1 + times y (dropped x ks)
-unfolding dropped
-dropped-times x y [] h = absurd (omega arith)
-dropped-times x y (z ∷ ks) h =
-    by-eq z x
-    (λ e. simp (eq-eqb z x e) (times-cons y z ks ∙ ap (λ (v : ℕ). hit v y 1 + times y ks) e))
-    (λ e. simp (ne-eqb z x e)
-    (times-cons y z ks
-    ∙ ap (λ (m : ℕ). hit z y 1 + m) (dropped-times x y ks (omega (arith, h, times-cons x z ks, hit-other z x 1 e)))
-    ∙ swap (hit z y 1) (hit x y 1) (times y (dropped x ks))
-    ∙ ap (λ (m : ℕ). hit x y 1 + m) (sym (times-cons y z (dropped x ks)))))
-  where
-    swap : (a b c : ℕ) → a + (b + c) ≡ b + (a + c)
-    swap a b c = omega arith
-
-dropped-total : (t : List ℕ) (x : ℕ) (ks : List ℕ) → 0 < times x ks → totalOf t ks ≡ getD t x 0 + totalOf t (dropped x ks)
-unfolding dropped
-dropped-total t x [] h = absurd (omega arith)
-dropped-total t x (z ∷ ks) h =
+less-total : (t : List ℕ) (x : ℕ) (ks : List ℕ) → 0 < times x ks → totalOf t ks ≡ getD t x 0 + totalOf t (less x ks)
+less-total t x [] h = absurd (omega arith)
+less-total t x (z ∷ ks) h =
     by-eq z x
     (λ e. simp (eq-eqb z x e) (total-cons t z ks ∙ ap (λ (v : ℕ). getD t v 0 + totalOf t ks) e))
     (λ e. simp (ne-eqb z x e)
     (total-cons t z ks
-    ∙ ap (λ (m : ℕ). getD t z 0 + m) (dropped-total t x ks (omega (arith, h, times-cons x z ks, hit-other z x 1 e)))
-    ∙ swap (getD t z 0) (getD t x 0) (totalOf t (dropped x ks))
-    ∙ ap (λ (m : ℕ). getD t x 0 + m) (sym (total-cons t z (dropped x ks)))))
+    ∙ ap (λ (m : ℕ). getD t z 0 + m) (less-total t x ks (omega (arith, h, times-cons x z ks, one-other z x e)))
+    ∙ swap (getD t z 0) (getD t x 0) (totalOf t (less x ks))
+    ∙ ap (λ (m : ℕ). getD t x 0 + m) (sym (total-cons t z (less x ks)))))
   where
     swap : (a b c : ℕ) → a + (b + c) ≡ b + (a + c)
     swap a b c = omega arith
 
 no-times : (ks : List ℕ) → ((y : ℕ) → times y ks ≡ 0) → ks ≡ []
 no-times [] h = refl
-no-times (x ∷ ks) h = absurd (omega (arith, h x, times-cons x x ks, hit-same x 1))
+no-times (x ∷ ks) h = absurd (omega (arith, h x, times-cons x x ks, one-same x))
 
 pub same-total : (t js ks : List ℕ) → ((y : ℕ) → times y js ≡ times y ks) → totalOf t js ≡ totalOf t ks
 same-total t [] ks e = ap (totalOf t) (sym (no-times ks (λ y. sym (e y))))
 same-total t (x ∷ js) ks e =
-    let h : 0 < times x ks = omega (arith, e x, times-cons x x js, hit-same x 1) in
+    let h : 0 < times x ks = omega (arith, e x, times-cons x x js, one-same x) in
     total-cons t x js
-    ∙ ap (λ (m : ℕ). getD t x 0 + m) (same-total t js (dropped x ks) (λ y. omega (arith, e y, times-cons y x js, dropped-times x y ks h)))
-    ∙ sym (dropped-total t x ks h)
+    ∙ ap (λ (m : ℕ). getD t x 0 + m) (same-total t js (less x ks) (λ y. omega (arith, e y, times-cons y x js, less-times x ks y h)))
+    ∙ sym (less-total t x ks h)
 
 -- ---- the sum over polls whose entries are their chains' slots
 

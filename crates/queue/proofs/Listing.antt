@@ -201,7 +201,7 @@ less-length x (y ∷ ys) h = go (eqb y x) h (λ k. less-length x ys k)
     go true k f = refl
     go false k f = ap suc (f (omega arith))
 
-less-times : (x : ℕ) (ys : List ℕ) (y : ℕ) → 0 < times x ys → one x y + times y (less x ys) ≡ times y ys
+pub less-times : (x : ℕ) (ys : List ℕ) (y : ℕ) → 0 < times x ys → one x y + times y (less x ys) ≡ times y ys
 less-times x [] y h = absurd (omega arith)
 less-times x (z ∷ ys) y h =
     on-test (λ b. (T b → z ≡ x) → 0 < cond b 1 0 + times x ys → one x y + times y (cond b ys (z ∷ less x ys)) ≡ times y (z ∷ ys)) (eqb z x)
