@@ -192,10 +192,15 @@ module _ (l : Layout) where
           not-not true = refl
           not-not false = refl
 
-      -- an answer that changes nothing: the queue after it is the same, but for what next_id promised
-      pub like-look : (a : Look Checkpoint) → ((i : ℕ) → looking q a ≡ i ∷ [] → (0 < w .prod .height) × (topOf (w .prod) (w .ids) ≡ i)) → Like ret w (next q (said.looked a))
-      unfolding next
-      like-look a f =
+      -- the queue with another promise of next_id and other checkpoints
+      abbrev with-marks : List ℕ → List (Mark Checkpoint) → Queue Checkpoint
+      with-marks ps ms =
+          record { waiting = q .waiting; old = q .old; fresh = q .fresh; done = q .done; out = q .out; promised = ps; polls = q .polls; comps = q .comps; since = q .since; marks = ms }
+
+      pub like-marks :
+          (ps : List ℕ) (ms : List (Mark Checkpoint)) → ((i : ℕ) → ps ≡ i ∷ [] → (0 < w .prod .height) × (topOf (w .prod) (w .ids) ≡ i))
+          → All (CheckOk size (q .comps) (k .cu) (tot (O q))) ms → Like ret w (with-marks ps ms)
+      like-marks ps ms f c =
           record {
             pu = k .pu;
             cu = k .cu;
@@ -236,8 +241,13 @@ module _ (l : Layout) where
             out-slots = k .out-slots;
             out-tot = k .out-tot;
             promise = f;
-            checks = k .checks;
+            checks = c;
           }
+
+      -- an answer that changes nothing: the queue after it is the same, but for what next_id promised
+      pub like-look : (a : Look Checkpoint) → ((i : ℕ) → looking q a ≡ i ∷ [] → (0 < w .prod .height) × (topOf (w .prod) (w .ids) ≡ i)) → Like ret w (next q (said.looked a))
+      unfolding next
+      like-look a f = like-marks (looking q a) (q .marks) f (k .checks)
 
       -- a call that changes nothing of what the invariant speaks of: the shadows, and bytes in no slot
       pub like-same :

@@ -38,7 +38,7 @@ use Rattle.packed.proofs.Counts.{Held, Used, ofItems, ofUsed, occS, occ
 use Rattle.packed.proofs.Spells.{Spells}
 use Rattle.packed.proofs.Named.{occ-times, none-bad, same-total, own-slots, total-polls, cleared-at}
 use Rattle.packed.proofs.Completes.{occ-slots}
-use Rattle.packed.proofs.Invariant.{Fine, fine-pos, O, F, W, CheckOk, Like, Match, Good, good-by, big, free-slots, c-size, c-sound, like-look}
+use Rattle.packed.proofs.Invariant.{Fine, fine-pos, O, F, W, CheckOk, Like, Match, Good, good-by, big, free-slots, c-size, c-sound, like-marks, like-look}
 
 module _ (l : Layout) (laid-out : badLayout l ≡ false) where
   abbrev size : ℕ
@@ -61,55 +61,14 @@ module _ (l : Layout) (laid-out : badLayout l ≡ false) where
     mark-like : Like l ret w (next q (said.marked (checkpointOf (w .cons))))
     unfolding next
     mark-like =
-        record {
-          pu = k .pu;
-          cu = k .cu;
-          fa = k .fa;
-          ca = k .ca;
-          pa = k .pa;
-          cu-is = k .cu-is;
-          fa-is = k .fa-is;
-          ca-is = k .ca-is;
-          pa-is = k .pa-is;
-          room = k .room;
-          begun = k .begun;
-          p-layout = k .p-layout;
-          c-layout = k .c-layout;
-          p-used = k .p-used;
-          c-used = k .c-used;
-          c-avail = k .c-avail;
-          p-avail = k .p-avail;
-          inflight = k .inflight;
-          whole = k .whole;
-          ids-whole = k .ids-whole;
-          counts-whole = k .counts-whole;
-          held-whole = k .held-whole;
-          spelled = k .spelled;
-          returned = k .returned;
-          rounds = k .rounds;
-          unused = k .unused;
-          dones-are = k .dones-are;
-          fine = k .fine;
-          o-pos = k .o-pos;
-          r-pos = k .r-pos;
-          once = k .once;
-          p-nums = k .p-nums;
-          c-nums = k .c-nums;
-          heights = k .heights;
-          out-pos = k .out-pos;
-          out-occ = k .out-occ;
-          out-slots = k .out-slots;
-          out-tot = k .out-tot;
-          promise = k .promise;
-          checks =
-              all-append (CheckOk size (q .comps) (k .cu) (tot (O q))) (q .marks) (markOf q (checkpointOf (w .cons)) ∷ []) (k .checks) (
-                (
-                  le-refl (q .comps),
-                  λ e. (k .c-used, (k .inflight, k .c-avail ∙ ap (pos size) (omega (arith, k .ca-is, k .fa-is, k .inflight)))),
-                ),
-                tt,
-              );
-        }
+        like-marks l laid-out ret w q k (q .promised) (q .marks ++ (markOf q (checkpointOf (w .cons)) ∷ [])) (k .promise)
+        (all-append (CheckOk size (q .comps) (k .cu) (tot (O q))) (q .marks) (markOf q (checkpointOf (w .cons)) ∷ []) (k .checks) (
+          (
+            le-refl (q .comps),
+            λ e. (k .c-used, (k .inflight, k .c-avail ∙ ap (pos size) (omega (arith, k .ca-is, k .fa-is, k .inflight)))),
+          ),
+          tt,
+        ))
 
     -- CHECKPOINT
     pub mark-good : Good l q (saysMarked (askOf (badRecord (w .cons)) (checkpointValues (checkpointOf (w .cons))))) w
