@@ -83,7 +83,7 @@ module _ (l : Layout) (laid-out : badLayout l ≡ false) where
         good-by l q _ (said.looked (said.refused said.other false 7)) w w
         (either-refused (usedNotices.sinceOf (w .prod) (w .ring) old) 7 _ said.other (ltb (old .head) (w .prod .layout .size)) e (omega arith)
         ∙ ap (λ (b : Bool). said.looked (said.refused said.other b 7)) (le-ltb (old .head) (w .prod .layout .size) h))
-        refl (inl refl, (ret, like-look l laid-out ret w q k (said.refused said.other false 7) (k .promise))))
+        refl (refl, (ret, like-look l laid-out ret w q k (said.refused said.other false 7) (k .promise))))
 
     -- ---- the driver's event area
     driver-apart : Apart (l .table) (tableBytes l) (w .prod .layout .driver) 4

@@ -105,7 +105,7 @@ module _ (l : Layout) (laid-out : badLayout l ≡ false) where
         poll-no outs louts 8 false (omega arith)
         (head-short (w .cons) (length (w .ring)) (headOf (w .cons) (w .ring)) (length (w .held)) (length outs) (length louts) (c-sound l laid-out ret w q k) (c-lent l laid-out ret w q k) s 0)
         (short (length outs) (length louts) (w .cons .layout .size) s)
-        (inr refl, (ret, like-look l laid-out ret w q k (said.refused said.poll false 8) (k .promise)))
+        (refl, (ret, like-look l laid-out ret w q k (said.refused said.poll false 8) (k .promise)))
       where
         not-le : (a b : ℕ) → not (leb b a) ≡ ltb a b
         not-le a b = split (ltb a b)

@@ -304,7 +304,7 @@ module _ (l : Layout) (laid-out : badLayout l ≡ false) where
           (rollback-stopped (w .cons) (w .held) cp js (λ y. omega (arith, handed-bad (w .cons) cp (length (w .held)) (off f) 0, y))
           ∙ ap (λ (m : ℕ). rolled (refused m) (w .cons) (w .held)) (handed-bad (w .cons) cp (length (w .held)) (off f) 0))
           f
-          (inl refl, (ret, like-look l laid-out ret w q k (said.refused (said.rollback cp js) false 7) (k .promise))))
+          (refl, (ret, like-look l laid-out ret w q k (said.refused (said.rollback cp js) false 7) (k .promise))))
         where
           true-false : true ≡ false → ⊥
           true-false e = let y : _≡_ {A = ℕ} 0 1 = cc in omega arith

@@ -241,7 +241,7 @@ module _ (l : Layout) (laid-out : badLayout l ≡ false) where
         let t = p-lent l laid-out ret w q k in
         split (badChain (length (c .addrs)) (length (c .lens)) (c .readable))
         (λ b. submit-no 8 false (omega arith) (submit-bad-chain (w .prod) (length (w .ring)) (w .ids) (w .counts) n (length (c .lens)) (c .readable) r t b) (ap not b)
-        (inr refl, (ret, like-look l laid-out ret w q k (said.refused (said.submit c) false 8) (k .promise))))
+        (refl, (ret, like-look l laid-out ret w q k (said.refused (said.submit c) false 8) (k .promise))))
         (λ g.
         by-lt 0 n
         (λ z.

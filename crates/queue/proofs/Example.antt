@@ -79,7 +79,7 @@ undo-none = record { mark = record { value = 7; polls = 0; comps = 0; stood = []
 
 ok-polled : AllOk 4 polledBoth
 unfolding model next
-ok-polled = (((((ok-rolled, inr refl), undo-none), (b ∷ [], refl)), ([], refl)), (refl, refl))
+ok-polled = (((((ok-rolled, refl), undo-none), (b ∷ [], refl)), ([], refl)), (refl, refl))
 
 no-undo : UndoAll (model completedBoth) 7 (2 ∷ 3 ∷ []) → ⊥
 unfolding model next

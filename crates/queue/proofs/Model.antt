@@ -8,7 +8,7 @@ use mathlib.Core.Bool.{Bool, true, false}
 use lib.ListN.{length, drop}
 use Rattle.queue.specs.History.{Chain, Item, Done, Call, Look, Event, History, Poll, slotsOf, slotsIn, items, ids, upto, after, butLast, without, withoutItem, times}
 use Rattle.queue.specs.History.{submit, poll, complete, reclaim, rollback, nextId, other, nexted, peeked, quiet, refused, astray, submitted, polled, completed, reclaimed, marked, rolled, looked}
-use Rattle.queue.specs.Promise.{Has, Unlike}
+use Rattle.queue.specs.Promise.{Has, Unlike, RightBadNo}
 
 -- a checkpoint that was taken: its value, how many polls and completions came before it, and the polls that a rollback could have undone
 pub record Mark (C : Type 0) : Type 0 where
@@ -107,7 +107,7 @@ module _ {C : Type 0} where
     OkLook q (peeked b) = ((b ≡ true) × (0 < length (q .waiting))) ⊎ ((b ≡ false) × (q .waiting ≡ []))
     OkLook q quiet = Unit
     OkLook q (refused c true n) = OkNo q c n
-    OkLook q (refused c false n) = (n ≡ 7) ⊎ (n ≡ 8)
+    OkLook q (refused c false n) = RightBadNo c n
     OkLook q (astray n) = Unit
 
     abbrev pub Ok : Queue C → Event C → Type 0

@@ -60,6 +60,17 @@ module _ {C : Type 0} where
 
   -- ---- what is promised, of a ring of so many slots
 
+  -- "7 only for what that call was handed, 8 only for slices too short or unequal in that call": a submission's slices and a poll's
+  -- outputs give 8, a rollback's checkpoint and the cursor of a question 7; the other calls are handed nothing that can be bad
+  abbrev pub RightBadNo : Call C → ℕ → Type 0
+  RightBadNo (submit c) n = n ≡ 8
+  RightBadNo poll n = n ≡ 8
+  RightBadNo (complete d) n = ⊥
+  RightBadNo reclaim n = ⊥
+  RightBadNo (rollback c js) n = n ≡ 7
+  RightBadNo nextId n = ⊥
+  RightBadNo other n = n ≡ 7
+
   module _ (size : ℕ) where
     -- a refusal of a call that was given the end's own and whose slices, outputs, cursors and checkpoints were good
     abbrev pub RightNo : History C → Call C → ℕ → Type 0
@@ -85,8 +96,7 @@ module _ {C : Type 0} where
     RightLook h (peeked b) = ((b ≡ true) × (0 < length (waiting h))) ⊎ ((b ≡ false) × (waiting h ≡ []))
     RightLook h quiet = Unit
     RightLook h (refused c true n) = RightNo h c n
-    -- "7 only for what that call was handed, 8 only for slices too short or unequal in that call"
-    RightLook h (refused c false n) = (n ≡ 7) ⊎ (n ≡ 8)
+    RightLook h (refused c false n) = RightBadNo c n
     RightLook h (astray n) = Unit
 
     abbrev pub Right : History C → Event C → Type 0
