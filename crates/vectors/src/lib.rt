@@ -1,1 +1,2 @@
-// Document 01's "Slots worth checking" that are marked D: theory alone, no functions.
+// Document 01's "Slots worth checking" that are marked D, and values that meet the premises of the leaves' and the ends' laws: theory alone,
+// no functions.
