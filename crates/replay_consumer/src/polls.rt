@@ -1,10 +1,10 @@
 // Opening, polls, completions, reset.
 use crate::Consumed;
 use crate::answered;
+use consumer::CompletedTold;
 use consumer::Opened;
 use consumer::Polled;
 use consumer::RingConsumer;
-use consumer::CompletedTold;
 use format::header;
 use format::input;
 use layout::Layout;
