@@ -11,7 +11,7 @@ use Rattle.consumer.specs.declared.Checkpoint.{Checkpoint}
 use Rattle.consumer.specs.Poll.{taken}
 use Rattle.queue.specs.History.{Item, Done, Event, History, pubs, comps, reclaims, lives}
 use Rattle.queue.specs.History as said
-use Rattle.queue.specs.Promise.{Right, Fifo}
+use Rattle.queue.specs.Promise.{Right}
 use Rattle.wrong.proofs.Ring.{Ring, withReclaim, withPoll, Demand}
 use Rattle.wrong.proofs.Calls.{a, item, done, submit-a, poll, complete-1, reclaim, computing, as-real, Broken, refuted}
 

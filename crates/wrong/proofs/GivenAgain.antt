@@ -1,4 +1,4 @@
--- An ID given again before its completion was returned: "an ID given is the ID of no chain whose completion poll_used has not yet returned" is broken.
+-- An ID given again before its completion was returned: "an ID given is the ID of no chain whose completion ..", broken.
 -- Assumes nothing.
 use mathlib.Core.Path.{refl}
 use mathlib.Core.Bool.{cond}
@@ -23,7 +23,7 @@ frees-last =
     (cond (eqb (o .answer .number) 0) (set (w .counts) (getD (w .ids) (w .prod .height) 0) 0) (w .counts)))
 
 -- two chains are submitted, with IDs 1 and 0; that of ID 1 is polled, completed and returned; the next submission gets ID 0, whose chain
--- is still out
+-- is still out: "an ID given is the ID of no chain whose completion poll_used has not yet returned"
 abbrev one-out : History Checkpoint
 one-out =
     said.reclaimed (done 1 5) ∷ said.completed (done 1 5) ∷ said.polled (item 1 a) ∷ said.submitted (item 0 b)

@@ -8,3 +8,4 @@ pub mod WrapLate
 pub mod NextOnLast
 pub mod Skips
 pub mod GivenAgain
+pub mod Wrong

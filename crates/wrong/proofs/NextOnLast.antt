@@ -1,6 +1,6 @@
--- NEXT on the last slot: a poll of a chain that fills the ring is refused with 2; of a shorter one it gives more than was published, against "element for element".
+-- NEXT on the last slot: a poll is refused with 2 though a chain waits, or gives more elements than were published.
 -- Assumes nothing.
-use Prim.Native.Nat.{ℕ, _+_, _-_}
+use Prim.Native.Nat.{_+_, _-_}
 use mathlib.Core.Path.{refl, ap}
 use mathlib.Core.Bool.{true, cond}
 use mathlib.Core.List.{List, [], _∷_}
@@ -65,7 +65,8 @@ next-on-last-broken =
 pub next-on-last-wrong : Demand next-on-last → ⊥
 next-on-last-wrong = refuted next-on-last next-on-last-broken
 
--- ---- the same ring with a chain of one element: the poll gives two, the second out of a slot that was never written
+-- ---- the same ring with a chain of one element: the poll gives two, the second out of a slot that was never written, against "element
+-- for element"
 
 abbrev waits : History Checkpoint
 waits = said.submitted (item 1 a) ∷ []

@@ -14,7 +14,7 @@ use Rattle.queue.specs.History.{Chain, Event, History}
 use Rattle.queue.specs.History as said
 use Rattle.queue.specs.Promise.{Undoes, Asked, Each, Fifo}
 use Rattle.queue.proofs.Machine.{Machine, worldOf, historyOf}
-use Rattle.packed.specs.Calls.{Own, Foreign, Call, oneOf}
+use Rattle.packed.specs.Calls.{Own, Call, oneOf}
 use Rattle.packed.specs.Calls.{submitAvailable, submitAvailableWithNotify, submitOne, submitOneWithNotify, pollUsed, nextId, producerAsked, shouldNotifySince, turnUsed, enableUsedDesc, enableUsedForNext, pollAvailable, submitUsed, submitUsedWithNotify, peekAvailable, pollCheckpoint, rollbackPolls, consumerAsked, turnAvail, enableAvailDesc, enableAvailForNext, own, foreign}
 use Rattle.packed.specs.Machine.{World, submitsOf, saysSubmitted, saysReclaimed, saysPolled, saysCompleted, afterMade, afterTaken, afterCompleted, ownSays, ownLeaves, astrayIn, asked, numberOf, says, leaves}
 use Rattle.packed.specs.Opening.{Opening, openedWorld}
@@ -144,7 +144,10 @@ own-same w enableAvailForNext = (refl, refl)
 call-same : (w : World) (c : Call) → (saysBy real w c ≡ says w c) × (leavesBy real w c ≡ leaves w c)
 unfolding saysBy leavesBy says leaves
 call-same w (own c) = own-same w c
-call-same w (foreign f) = (ap (λ (e : Event Checkpoint). said.looked (said.astray (numberOf e))) (own-same (astrayIn w f) (asked f) .0), refl)
+call-same w (foreign f) = (
+  ap (λ (e : Event Checkpoint). said.looked (said.astray (numberOf e))) (own-same (astrayIn w f) (asked f) .0),
+  refl,
+)
 
 module _ (w : World) where
   world-same : (cs : List Given) → worldOf (machineOf real) w cs ≡ worldOf packed w cs

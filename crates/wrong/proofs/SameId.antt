@@ -1,4 +1,4 @@
--- ID 0 each time: "an ID given is the ID of no chain whose completion poll_used has not yet returned" is broken by the second submission.
+-- ID 0 each time: "an ID given is the ID of no chain whose completion poll_used has not yet returned" is broken.
 -- Assumes nothing.
 use mathlib.Core.Path.{refl}
 use mathlib.Core.List.{[], _∷_}

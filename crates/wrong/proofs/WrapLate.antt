@@ -24,7 +24,7 @@ use Rattle.wrong.proofs.Calls.{a, both, item, done, submit-a, submit-bo
 abbrev late : RingCursor → RingCursor → RingCursor
 late old new = cond (eqb (new .head) 0) (at 0 (old .wrap)) new
 
--- a producer's record with both cursors late, and a consumer's
+-- a producer's record behind a call, given the one before it, with both cursors late, and a consumer's
 abbrev lateProducer : RingProducer → RingProducer → RingProducer
 lateProducer old p =
     record {
@@ -84,7 +84,7 @@ late-submit-wrong = refuted late-submit late-submit-broken
 
 -- ---- all four cursors late, so that the ends agree on the round
 
--- THE WRONG RING: every cursor of both ends is late
+-- THE WRONG RING: the cursors of both ends are late behind every call that moves them
 abbrev pub late-all : Ring
 late-all =
     record {
