@@ -1,0 +1,53 @@
+-- An ID given again before its completion was returned: "an ID given is the ID of no chain whose completion ..", broken.
+-- Assumes nothing.
+use mathlib.Core.Path.{refl}
+use mathlib.Core.Bool.{cond}
+use mathlib.Core.List.{[], _∷_}
+use lib.Dec.{eqb}
+use lib.ListN.{getD, set}
+use Rattle.producer.specs.Outcome.{outcome}
+use Rattle.consumer.specs.declared.Checkpoint.{Checkpoint}
+use Rattle.queue.specs.History.{Event, History, out}
+use Rattle.queue.specs.History as said
+use Rattle.queue.specs.Promise.{Right}
+use Rattle.wrong.proofs.Ring.{Ring, real, withReclaim, Demand}
+use Rattle.wrong.proofs.Calls.{a, b, item, done, submit-a, submit-b, poll, complete-1, reclaim, computing, as-real, Broken, refuted}
+
+-- THE WRONG RING: poll_used answers the completion that it found, but gives free the ID that was given last: it stays where it stood on
+-- the stack, and its count is cleared
+abbrev pub frees-last : Ring
+frees-last =
+    withReclaim (λ w.
+    let o = real .reclaim w in
+    outcome (o .answer) (o .end) (o .ring) (w .ids)
+    (cond (eqb (o .answer .number) 0) (set (w .counts) (getD (w .ids) (w .prod .height) 0) 0) (w .counts)))
+
+-- two chains are submitted, with IDs 1 and 0; that of ID 1 is polled, completed and returned; the next submission gets ID 0, whose chain
+-- is still out: "an ID given is the ID of no chain whose completion poll_used has not yet returned"
+abbrev one-out : History Checkpoint
+one-out =
+    said.reclaimed (done 1 5) ∷ said.completed (done 1 5) ∷ said.polled (item 1 a) ∷ said.submitted (item 0 b)
+    ∷ said.submitted (item 1 a) ∷ []
+
+abbrev again : Event Checkpoint
+again = said.submitted (item 0 a)
+
+still-out : Right 2 one-out again → ⊥
+unfolding out
+still-out f = f .1 .0 .0 refl
+
+pub frees-last-broken : Broken frees-last
+unfolding computing
+frees-last-broken =
+    record {
+      calls = submit-a ∷ reclaim ∷ complete-1 ∷ poll ∷ submit-b ∷ submit-a ∷ [];
+      before = one-out;
+      event = again;
+      computed = refl;
+      meets = ((((((tt, tt), tt), tt), tt), tt), tt);
+      right-before = as-real (reclaim ∷ complete-1 ∷ poll ∷ submit-b ∷ submit-a ∷ []) one-out refl (((((tt, tt), tt), tt), tt), tt);
+      wrong = still-out;
+    }
+
+pub frees-last-wrong : Demand frees-last → ⊥
+frees-last-wrong = refuted frees-last frees-last-broken

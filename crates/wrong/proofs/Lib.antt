@@ -1,0 +1,11 @@
+pub mod Ring
+pub mod Calls
+pub mod Blocks
+pub mod Sevens
+pub mod SameId
+pub mod FreesOne
+pub mod WrapLate
+pub mod NextOnLast
+pub mod Skips
+pub mod GivenAgain
+pub mod Wrong

@@ -1,0 +1,92 @@
+-- NEXT on the last slot: a poll is refused with 2 though a chain waits, or gives more elements than were published.
+-- Assumes nothing.
+use Prim.Native.Nat.{_+_, _-_}
+use mathlib.Core.Path.{refl, ap}
+use mathlib.Core.Bool.{true, cond}
+use mathlib.Core.List.{List, [], _∷_}
+use native.Mathlib.Omega.{arith}
+use lib.Dec.{eqb}
+use lib.ListN.{length, take}
+use Rattle.cursor.specs.declared.RingCursor.{RingCursor}
+use Rattle.cursor.specs.Cursor.{steps}
+use Rattle.desc.specs.declared.Descriptor.{Descriptor}
+use Rattle.desc.specs.Flags.{NEXT}
+use Rattle.desc.specs.Desc.{descriptor}
+use Rattle.ring.specs.Slots.{slotOf, slotPut}
+use Rattle.producer.specs.Outcome.{outcome}
+use Rattle.consumer.specs.declared.Checkpoint.{Checkpoint}
+use Rattle.queue.specs.History.{Chain, Item, Event, History, slotsIn, pubs, lives}
+use Rattle.queue.specs.History as said
+use Rattle.queue.specs.Promise.{Right}
+use Rattle.packed.specs.Machine.{World}
+use Rattle.wrong.proofs.Ring.{Ring, real, withSubmit, Demand}
+use Rattle.wrong.proofs.Calls.{a, both, item, submit-a, submit-both, poll, computing, as-real, Broken, refuted}
+
+abbrev nexted : Descriptor → Descriptor
+nexted d = descriptor (d .addr) (d .len) (d .id) (d .flags + NEXT)
+
+-- the slot of a chain's last element
+abbrev lastOf : World → Chain → RingCursor
+lastOf w c = steps (w .prod .layout .size) (length (c .addrs) - 1) (w .prod .avail)
+
+-- THE WRONG RING: behind a submission that is accepted, the last slot has NEXT too
+abbrev pub next-on-last : Ring
+next-on-last =
+    withSubmit (λ w c.
+    let o = real .submit w c in
+    let table = w .prod .layout .table in
+    outcome (o .answer) (o .end)
+    (cond (eqb (o .answer .number) 0) (slotPut table (lastOf w c) (nexted (slotOf table (lastOf w c) (o .ring))) (o .ring)) (o .ring))
+    (o .ids) (o .counts))
+
+-- a chain that fills the ring is submitted, and the poll is refused with 2: "blocks only when none waits", and is else never refused
+abbrev fills : History Checkpoint
+fills = said.submitted (item 1 both) ∷ []
+
+abbrev bad-chain : Event Checkpoint
+bad-chain = said.looked (said.refused said.poll true 2)
+
+not-three : Right 2 fills bad-chain → ⊥
+not-three f = omega arith
+
+pub next-on-last-broken : Broken next-on-last
+unfolding computing
+next-on-last-broken =
+    record {
+      calls = poll ∷ submit-both ∷ [];
+      before = fills;
+      event = bad-chain;
+      computed = refl;
+      meets = ((tt, tt), tt);
+      right-before = as-real (submit-both ∷ []) fills refl (tt, tt);
+      wrong = not-three;
+    }
+
+pub next-on-last-wrong : Demand next-on-last → ⊥
+next-on-last-wrong = refuted next-on-last next-on-last-broken
+
+-- ---- the same ring with a chain of one element: the poll gives two, the second out of a slot that was never written, against "element
+-- for element"
+
+abbrev waits : History Checkpoint
+waits = said.submitted (item 1 a) ∷ []
+
+abbrev longer : Event Checkpoint
+longer = said.polled (item 1 (record { addrs = 4096 ∷ 0 ∷ []; lens = 16 ∷ 0 ∷ []; readable = 2 }))
+
+not-its-elements : Right 2 waits longer → ⊥
+unfolding pubs lives
+not-its-elements f = omega (arith, ap (λ (l : List Item). slotsIn (take 1 l)) (f .1))
+
+pub longer-broken : Broken next-on-last
+unfolding computing
+longer-broken =
+    record {
+      calls = poll ∷ submit-a ∷ [];
+      before = waits;
+      event = longer;
+      computed = refl;
+      meets = ((tt, tt), tt);
+      right-before = as-real (submit-a ∷ []) waits refl (tt, tt);
+      wrong = not-its-elements;
+    }

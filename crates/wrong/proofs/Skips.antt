@@ -1,0 +1,50 @@
+-- A poll that skips: "a poll returns the oldest published chain whose polls, if any, were all rolled back" is broken.
+-- Assumes nothing.
+use mathlib.Core.Path.{refl, ap}
+use mathlib.Core.List.{List, [], _∷_}
+use native.Mathlib.Omega.{arith}
+use Rattle.cursor.specs.declared.RingCursor.{RingCursor}
+use Rattle.consumer.specs.declared.RingConsumer.{RingConsumer}
+use Rattle.consumer.specs.declared.Checkpoint.{Checkpoint}
+use Rattle.consumer.specs.Poll.{pollOf}
+use Rattle.queue.specs.History.{Item, Event, History, pubs, lives}
+use Rattle.queue.specs.History as said
+use Rattle.queue.specs.Promise.{Right}
+use Rattle.wrong.proofs.Ring.{Ring, real, withPoll, Demand}
+use Rattle.wrong.proofs.Calls.{a, b, item, submit-a, submit-b, poll, computing, as-real, Broken, refuted, firstId}
+
+-- a consumer whose avail cursor is there
+abbrev movedTo : RingConsumer → RingCursor → RingConsumer
+movedTo p c = record { layout = p .layout; avail = c; used = p .used; inflight = p .inflight; shadow = p .shadow }
+
+-- THE WRONG RING: a poll is the real one from behind the chain that the real one would give
+abbrev pub skips : Ring
+skips =
+    withPoll (λ w outs louts. pollOf (movedTo (w .cons) (real .poll w outs louts .end .avail)) (w .ring) (w .held) outs louts)
+
+-- two chains are submitted, and the poll gives the second
+abbrev two-wait : History Checkpoint
+two-wait = said.submitted (item 0 b) ∷ said.submitted (item 1 a) ∷ []
+
+abbrev second : Event Checkpoint
+second = said.polled (item 0 b)
+
+not-oldest : Right 2 two-wait second → ⊥
+unfolding pubs lives
+not-oldest f = omega (arith, ap (λ (l : List Item). firstId l) (f .1))
+
+pub skips-broken : Broken skips
+unfolding computing
+skips-broken =
+    record {
+      calls = poll ∷ submit-b ∷ submit-a ∷ [];
+      before = two-wait;
+      event = second;
+      computed = refl;
+      meets = (((tt, tt), tt), tt);
+      right-before = as-real (submit-b ∷ submit-a ∷ []) two-wait refl ((tt, tt), tt);
+      wrong = not-oldest;
+    }
+
+pub skips-wrong : Demand skips → ⊥
+skips-wrong = refuted skips skips-broken
