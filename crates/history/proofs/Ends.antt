@@ -1,0 +1,107 @@
+-- Rings of two and of three slots, each opened by two fresh ends over zero bytes, and the calls of both ends, written short.
+-- Assumes nothing.
+use Prim.Native.Nat.{ℕ, zero, suc, _+_, _^_, _<_}
+use mathlib.Core.Path.{_≡_, refl}
+use mathlib.Core.List.{List, [], _∷_}
+use mathlib.Core.Bool.{Bool, true, false, false≢true, _&&_}
+use native.Mathlib.Omega.{arith}
+use lib.Dec.{ltb}
+use lib.ListN.{getD, replicate, getD-replicate}
+use borrow.Author.Tests.{ltb-true}
+use Rattle.cursor.specs.declared.RingCursor.{RingCursor}
+use Rattle.layout.specs.Layout.{apart, badLayout, outside}
+use Rattle.producer.specs.Fresh as made
+use Rattle.consumer.specs.declared.Checkpoint.{Checkpoint}
+use Rattle.consumer.specs.Fresh as taken
+use Rattle.ring.specs.Tables.{upFrom}
+use Rattle.queue.specs.History.{Chain}
+use Rattle.packed.specs.Calls.{Own, Foreign, Typed, TypedChain, oneOf}
+use Rattle.packed.specs.Calls.{submitAvailable, submitOne, pollAvailable, submitUsed, own, foreign}
+use Rattle.packed.specs.Machine.{World}
+use Rattle.packed.specs.Opening.{Opening, openedWorld}
+use Rattle.packed.proofs.Packed.{Given}
+
+-- ---- the openings
+
+abbrev pub zeros : ℕ → List ℕ
+zeros n = replicate n 0
+
+-- two slots: the table at 0, the driver's event area at 32, the device's at 36; 40 bytes
+pub two : Opening 2 0 32 36 (zeros 40) (zeros 2) (zeros 2) (zeros 2)
+unfolding made.openOf made.freshOf taken.openOf taken.freshOf badLayout outside apart upFrom
+two =
+    record {
+      producer = refl;
+      consumer = refl;
+      table-zero = λ k h. getD-replicate 40 (0 + k) 0 0 (omega (arith, h));
+      driver-zero = λ k h. getD-replicate 40 (32 + k) 0 0 (omega (arith, h));
+      device-zero = λ k h. getD-replicate 40 (36 + k) 0 0 (omega (arith, h));
+    }
+
+abbrev pub world-two : World
+world-two = openedWorld 2 0 32 36 (zeros 40) (zeros 2) (zeros 2) (zeros 2)
+
+-- three slots: 56 bytes
+pub three : Opening 3 0 48 52 (zeros 56) (zeros 3) (zeros 3) (zeros 3)
+unfolding made.openOf made.freshOf taken.openOf taken.freshOf badLayout outside apart upFrom
+three =
+    record {
+      producer = refl;
+      consumer = refl;
+      table-zero = λ k h. getD-replicate 56 (0 + k) 0 0 (omega (arith, h));
+      driver-zero = λ k h. getD-replicate 56 (48 + k) 0 0 (omega (arith, h));
+      device-zero = λ k h. getD-replicate 56 (52 + k) 0 0 (omega (arith, h));
+    }
+
+abbrev pub world-three : World
+world-three = openedWorld 3 0 48 52 (zeros 56) (zeros 3) (zeros 3) (zeros 3)
+
+-- ---- calls with arguments of their types
+
+-- every number of a list is below n
+abbrev pub below : ℕ → List ℕ → Bool
+below n [] = true
+below n (x ∷ xs) = ltb x n && below n xs
+
+both : (a b : Bool) → a && b ≡ true → (a ≡ true) × (b ≡ true)
+both true b h = (refl, h)
+both false b h = absurd (false≢true h)
+
+pub all-below : (n : ℕ) (l : List ℕ) → 0 < n → below n l ≡ true → (i : ℕ) → getD l i 0 < n
+all-below n [] p h i = p
+all-below n (x ∷ xs) p h zero = ltb-true x n (both (ltb x n) (below n xs) h .0)
+all-below n (x ∷ xs) p h (suc i) = all-below n xs p (both (ltb x n) (below n xs) h .1) i
+
+pub typed : (c : Chain) → below (256 ^ 8) (c .addrs) ≡ true → below (256 ^ 4) (c .lens) ≡ true → TypedChain c
+typed c a l = (all-below (256 ^ 8) (c .addrs) (omega arith) a, all-below (256 ^ 4) (c .lens) (omega arith) l)
+
+-- a call whose arguments are of any value
+abbrev pub does : (c : Own) → Typed c → Given
+does c t = record { call = own c; typed = t }
+
+abbrev pub strays : Foreign → Given
+strays f = record { call = foreign f; typed = tt }
+
+-- addresses, lengths, how many are readable
+abbrev pub chain : List ℕ → List ℕ → ℕ → Chain
+chain xs ls r = record { addrs = xs; lens = ls; readable = r }
+
+abbrev pub submits : (c : Chain) → below (256 ^ 8) (c .addrs) ≡ true → below (256 ^ 4) (c .lens) ≡ true → Given
+submits c a l = does (submitAvailable c) (typed c a l)
+
+abbrev pub submitsOne : (addr len : ℕ) (writable : Bool) → below (256 ^ 8) (addr ∷ []) ≡ true → below (256 ^ 4) (len ∷ []) ≡ true → Given
+submitsOne addr len w a l = does (submitOne addr len w) (typed (oneOf addr len w) a l)
+
+-- outputs of n entries each
+abbrev pub polls-for : ℕ → Given
+polls-for n = does (pollAvailable (zeros n) (zeros n)) tt
+
+pub ids-fit : (id len : ℕ) → ltb id (256 ^ 2) ≡ true → ltb len (256 ^ 4) ≡ true → (id < 256 ^ 2) × (len < 256 ^ 4)
+ids-fit id len i l = (ltb-true id (256 ^ 2) i, ltb-true len (256 ^ 4) l)
+
+abbrev pub completes : (id len : ℕ) → ltb id (256 ^ 2) ≡ true → ltb len (256 ^ 4) ≡ true → Given
+completes id len i l = does (submitUsed id len) (ids-fit id len i l)
+
+-- a checkpoint of any value: the avail cursor, the used cursor, the slots in flight
+abbrev pub checkpoint : RingCursor → RingCursor → ℕ → Checkpoint
+checkpoint a u n = record { avail = a; used = u; inflight = n }

@@ -1,0 +1,408 @@
+-- What goes wrong where the premise on rollbacks is not met: for each of its clauses a history, computed over bytes, that is not demand 3's.
+-- Assumes nothing.
+use Prim.Native.Nat.{ℕ}
+use mathlib.Core.Path.{_≡_, refl, sym, subst, ap}
+use mathlib.Core.Logic.{_⊎_, inl, inr}
+use mathlib.Core.List.{List, [], _∷_, _++_}
+use mathlib.Core.Bool.{true, false}
+use native.Mathlib.Omega.{arith}
+use lib.ListN.{length}
+use Rattle.base.specs.Bytes.{bytesOf, wordAt, putOf, getOf}
+use Rattle.cursor.specs.Cursor.{at, step, steps}
+use Rattle.desc.specs.Flags.{isAvail, isUsed}
+use Rattle.desc.specs.Desc.{encodeOf, decodeOf, markAvail, markUsed}
+use Rattle.layout.specs.Layout.{apart, badLayout, outside}
+use Rattle.chain.specs.Chain.{badChain}
+use Rattle.ring.specs.Slots.{slotOf, slotPut}
+use Rattle.ring.specs.Tables.{upFrom}
+use Rattle.ring.specs.Asked.{askOf}
+use Rattle.walk.specs.Walk.{lookOf, walkOf, slotsFrom}
+use Rattle.undo.specs.Undo.{named, badIds, totalOf, clearedOf}
+use Rattle.producer.specs.Record as madeRecord
+use Rattle.producer.specs.Submit as makes
+use Rattle.producer.specs.Poll as usedPoll
+use Rattle.producer.specs.Fresh as madeFresh
+use Rattle.consumer.specs.declared.Checkpoint.{Checkpoint}
+use Rattle.consumer.specs.Record as takenRecord
+use Rattle.consumer.specs.Poll as takes
+use Rattle.consumer.specs.Complete.{completeRefusal, completedOf, completeOf}
+use Rattle.consumer.specs.Rollback.{handedRefusal, staleOf, rollbackRefusal, backOf, rollbackOf}
+use Rattle.consumer.specs.Fresh as takenFresh
+use Rattle.queue.specs.History.{Item, Done, History, slotsOf, items, ids, after, times, pubs, polls, comps, lives, held, finished, out}
+use Rattle.queue.specs.History as said
+use Rattle.queue.specs.Promise.{Has, Undoes, Asked, Each, Right, Fifo}
+use Rattle.queue.proofs.Machine.{worldOf, historyOf}
+use Rattle.packed.specs.Calls.{oneOf, pollUsed, pollCheckpoint, rollbackPolls}
+use Rattle.packed.specs.Machine.{ownSays, ownLeaves, says, leaves}
+use Rattle.packed.proofs.Packed.{Given, packed, demand-3}
+use Rattle.history.proofs.Ends.{zeros, two, three, world-two, world-three, does, chain, submits, submitsOne, completes, polls-for, checkpoint}
+
+abbrev done : ℕ → ℕ → Done
+done id len = record { id = id; len = len }
+
+-- by demand 3 poll_available and poll_used, given what is good, are refused with 3 alone
+not-five : {A : Type 0} → _≡_ {A = ℕ} 5 3 × A → ⊥
+not-five r = omega (arith, r .0)
+
+-- ---- (a) "undoing every poll since": an older chain of equal length is named instead
+
+-- a and b are one element each, on a ring of two slots. a is polled; a checkpoint; b is polled; and the rollback names a
+abbrev a : Item
+a = record { id = 1; chain = oneOf 4096 16 false }
+
+abbrev b : Item
+b = record { id = 0; chain = oneOf 8192 16 false }
+
+abbrev between : Checkpoint
+between = checkpoint (at 1 true) (at 0 true) 1
+
+abbrev older-calls : List Given
+older-calls =
+    does pollUsed tt
+    ∷ completes 0 8 refl refl
+    ∷ does pollUsed tt
+    ∷ polls-for 2
+    ∷ completes 0 7 refl refl
+    ∷ completes 1 0 refl refl
+    ∷ polls-for 2
+    ∷ does (rollbackPolls between (1 ∷ [])) tt
+    ∷ polls-for 2
+    ∷ does pollCheckpoint tt
+    ∷ polls-for 2
+    ∷ submitsOne 8192 16 false refl refl
+    ∷ submitsOne 4096 16 false refl refl
+    ∷ []
+
+abbrev older-taken : History Checkpoint
+older-taken = said.polled a ∷ said.submitted b ∷ said.submitted a ∷ []
+
+abbrev older-polled : History Checkpoint
+older-polled = said.polled b ∷ said.marked between ∷ older-taken
+
+-- all of 9's tests pass: as many slots are undone as were polled since
+abbrev older-rolled : History Checkpoint
+older-rolled = said.rolled between (1 ∷ []) ∷ older-polled
+
+-- b is to be polled again, and the poll is refused with 5
+abbrev older-poll : History Checkpoint
+older-poll = said.looked (said.refused said.poll true 5) ∷ older-rolled
+
+-- a was not undone, and its completion is refused
+abbrev older-lost : History Checkpoint
+older-lost = said.looked (said.refused (said.complete (done 1 0)) true 5) ∷ older-poll
+
+-- b was undone, and its completion is accepted
+abbrev older-accepted : History Checkpoint
+older-accepted = said.completed (done 0 7) ∷ older-lost
+
+-- b is polled after it was completed, completed once more, and the producer comes to a completion of an ID that it has not out: 5. a never comes back
+abbrev older-twice : History Checkpoint
+older-twice = said.completed (done 0 8) ∷ said.reclaimed (done 0 7) ∷ said.polled b ∷ older-accepted
+
+abbrev older : History Checkpoint
+older = said.looked (said.refused said.reclaim true 5) ∷ older-twice
+
+pub older-answers : historyOf packed world-two older-calls ≡ older
+unfolding historyOf worldOf says leaves ownSays ownLeaves bytesOf wordAt putOf getOf step steps isAvail isUsed encodeOf decodeOf markAvail markUsed apart badLayout outside badChain slotOf slotPut upFrom askOf lookOf walkOf slotsFrom named badIds totalOf clearedOf madeRecord.badRecord madeRecord.badLent makes.submitRefusal makes.elementOf makes.putTails makes.putChain makes.takenOf makes.submittedOf makes.submitOf usedPoll.pollRefusal usedPoll.freedOf usedPoll.polledOf usedPoll.pollOf madeFresh.freshOf madeFresh.openOf takenRecord.badRecord takenRecord.badLent takes.headRefusal takes.walkRefusal takes.pollRefusal takes.pastOf takes.takenOf takes.pollOf completeRefusal completedOf completeOf handedRefusal staleOf rollbackRefusal backOf rollbackOf takenFresh.freshOf takenFresh.openOf
+older-answers = refl
+
+-- the other clauses hold: the checkpoint was taken, no completion came since, and the list names as many polls as came
+-- since, one that is held
+pub record OlderKept : Type 0 where
+  pub took : older-polled ≡ (said.polled b ∷ []) ++ (said.marked between ∷ older-taken)
+  pub none-completed : comps older-polled ≡ comps older-taken
+  pub as-many : length {A = ℕ} (1 ∷ []) ≡ length (after (polls older-taken) (lives older-polled))
+  pub is-held : Has 1 (held older-polled)
+  -- the one poll since is of ID 0
+  pub since : ids (after (polls older-taken) (lives older-polled)) ≡ 0 ∷ []
+
+pub older-kept : OlderKept
+unfolding comps polls lives held
+older-kept = record { took = refl; none-completed = refl; as-many = refl; is-held = inl refl; since = refl }
+
+-- four answers after it are wrong
+pub record OlderWrong : Type 0 where
+  pub poll-refused : Right 2 older-rolled (said.looked (said.refused said.poll true 5)) → ⊥
+  pub held-refused : Right 2 older-poll (said.looked (said.refused (said.complete (done 1 0)) true 5)) → ⊥
+  pub undone-accepted : Right 2 older-lost (said.completed (done 0 7)) → ⊥
+  pub stuck : Right 2 older-twice (said.looked (said.refused said.reclaim true 5)) → ⊥
+
+pub older-wrong : OlderWrong
+unfolding held
+older-wrong = record { poll-refused = not-five; held-refused = λ r. r .1 (inl refl); undone-accepted = other; stuck = not-five }
+  where
+    other : _≡_ {A = ℕ} 1 0 ⊎ ⊥ → ⊥
+    other (inl e) = omega (arith, e)
+    other (inr z) = z
+
+pub older-not-fifo : Fifo 2 (historyOf packed world-two older-calls) → ⊥
+older-not-fifo f = older-wrong .stuck (subst (Fifo 2) older-answers f .1)
+
+-- so the premise is not met
+pub older-unmet : Each (Asked Undoes) (historyOf packed world-two older-calls) → ⊥
+older-unmet m = older-not-fifo (demand-3 2 0 32 36 (zeros 40) (zeros 2) (zeros 2) (zeros 2) two older-calls m)
+
+-- ---- (b) "with no completion between": a rollback after a completion, which the ring itself refuses
+
+-- a checkpoint; a and b are polled; a is completed. A rollback that names what is still held, or all that was polled, is refused; and so is
+-- one of nothing after b is completed too: the used cursor is at the same slot then, in another round
+abbrev fresh : Checkpoint
+fresh = checkpoint (at 0 true) (at 0 true) 0
+
+abbrev between-calls : List Given
+between-calls =
+    does (rollbackPolls fresh []) tt
+    ∷ completes 0 0 refl refl
+    ∷ does (rollbackPolls fresh (0 ∷ 1 ∷ [])) tt
+    ∷ does (rollbackPolls fresh (0 ∷ [])) tt
+    ∷ completes 1 0 refl refl
+    ∷ polls-for 2
+    ∷ polls-for 2
+    ∷ does pollCheckpoint tt
+    ∷ submitsOne 8192 16 false refl refl
+    ∷ submitsOne 4096 16 false refl refl
+    ∷ []
+
+abbrev between-history : History Checkpoint
+between-history =
+    said.looked (said.refused (said.rollback fresh []) true 9)
+    ∷ said.completed (done 0 0)
+    ∷ said.looked (said.refused (said.rollback fresh (0 ∷ 1 ∷ [])) true 9)
+    ∷ said.looked (said.refused (said.rollback fresh (0 ∷ [])) true 9)
+    ∷ said.completed (done 1 0)
+    ∷ said.polled b
+    ∷ said.polled a
+    ∷ said.marked fresh
+    ∷ said.submitted b
+    ∷ said.submitted a
+    ∷ []
+
+pub between-answers : historyOf packed world-two between-calls ≡ between-history
+unfolding historyOf worldOf says leaves ownSays ownLeaves bytesOf wordAt putOf getOf step steps isAvail isUsed encodeOf decodeOf markAvail markUsed apart badLayout outside badChain slotOf slotPut upFrom askOf lookOf walkOf slotsFrom named badIds totalOf clearedOf madeRecord.badRecord madeRecord.badLent makes.submitRefusal makes.elementOf makes.putTails makes.putChain makes.takenOf makes.submittedOf makes.submitOf usedPoll.pollRefusal usedPoll.freedOf usedPoll.polledOf usedPoll.pollOf madeFresh.freshOf madeFresh.openOf takenRecord.badRecord takenRecord.badLent takes.headRefusal takes.walkRefusal takes.pollRefusal takes.pastOf takes.takenOf takes.pollOf completeRefusal completedOf completeOf handedRefusal staleOf rollbackRefusal backOf rollbackOf takenFresh.freshOf takenFresh.openOf
+between-answers = refl
+
+-- so nothing goes wrong: a rollback that is refused changes nothing, and nothing is asked of it
+pub between-fifo : Fifo 2 (historyOf packed world-two between-calls)
+between-fifo =
+    demand-3 2 0 32 36 (zeros 40) (zeros 2) (zeros 2) (zeros 2) two between-calls
+    (subst (Each (Asked Undoes)) (sym between-answers) ((((((((((tt, tt), tt), tt), tt), tt), tt), tt), tt), tt), tt))
+
+-- ---- (c) "with no completion between": completions of exactly twice the ring's size, after which the ring does not refuse it
+
+-- a checkpoint of the fresh ring. A chain of two and a chain of one are polled and completed. p and q are polled and q is completed: four
+-- slots in all, and the used cursor is where it was. p alone is held, and the rollback names it
+abbrev x : Item
+x = record { id = 1; chain = chain (4096 ∷ 8192 ∷ []) (16 ∷ 16 ∷ []) 1 }
+
+abbrev z : Item
+z = record { id = 1; chain = oneOf 12288 16 false }
+
+abbrev p : Item
+p = record { id = 1; chain = oneOf 16384 16 false }
+
+abbrev q : Item
+q = record { id = 0; chain = oneOf 20480 16 false }
+
+abbrev r : Item
+r = record { id = 0; chain = oneOf 24576 16 false }
+
+abbrev stale-calls : List Given
+stale-calls =
+    does pollUsed tt
+    ∷ completes 0 7 refl refl
+    ∷ polls-for 2
+    ∷ does pollUsed tt
+    ∷ completes 0 6 refl refl
+    ∷ polls-for 2
+    ∷ submitsOne 24576 16 false refl refl
+    ∷ does pollUsed tt
+    ∷ does (rollbackPolls fresh (1 ∷ [])) tt
+    ∷ completes 0 5 refl refl
+    ∷ polls-for 2
+    ∷ polls-for 2
+    ∷ submitsOne 20480 16 false refl refl
+    ∷ submitsOne 16384 16 false refl refl
+    ∷ does pollUsed tt
+    ∷ completes 1 0 refl refl
+    ∷ polls-for 2
+    ∷ submitsOne 12288 16 false refl refl
+    ∷ does pollUsed tt
+    ∷ completes 1 0 refl refl
+    ∷ polls-for 2
+    ∷ submits (x .chain) refl refl
+    ∷ does pollCheckpoint tt
+    ∷ []
+
+abbrev stale-since : History Checkpoint
+stale-since =
+    said.completed (done 0 5)
+    ∷ said.polled q
+    ∷ said.polled p
+    ∷ said.submitted q
+    ∷ said.submitted p
+    ∷ said.reclaimed (done 1 0)
+    ∷ said.completed (done 1 0)
+    ∷ said.polled z
+    ∷ said.submitted z
+    ∷ said.reclaimed (done 1 0)
+    ∷ said.completed (done 1 0)
+    ∷ said.polled x
+    ∷ said.submitted x
+    ∷ []
+
+abbrev stale-polled : History Checkpoint
+stale-polled = stale-since ++ (said.marked fresh ∷ [])
+
+-- all of 9's tests pass; but q was polled last, and p, whose count is cleared, was not. q's completion comes back; r is submitted and gets
+-- q's ID; then q is polled again, though it was completed, and completed again
+abbrev stale-again : History Checkpoint
+stale-again =
+    said.completed (done 0 6)
+    ∷ said.polled q
+    ∷ said.submitted r
+    ∷ said.reclaimed (done 0 5)
+    ∷ said.rolled fresh (1 ∷ [])
+    ∷ stale-polled
+
+-- poll_used returns it as the completion of ID 0, which is r's: r is done for the producer before it was polled
+abbrev stale-mistaken : History Checkpoint
+stale-mistaken = said.reclaimed (done 0 6) ∷ stale-again
+
+-- r is polled and completed, and its own completion reaches a producer that has no chain of that ID out: 5
+abbrev stale-last : History Checkpoint
+stale-last = said.completed (done 0 7) ∷ said.polled r ∷ stale-mistaken
+
+abbrev stale : History Checkpoint
+stale = said.looked (said.refused said.reclaim true 5) ∷ stale-last
+
+pub stale-answers : historyOf packed world-two stale-calls ≡ stale
+unfolding historyOf worldOf says leaves ownSays ownLeaves bytesOf wordAt putOf getOf step steps isAvail isUsed encodeOf decodeOf markAvail markUsed apart badLayout outside badChain slotOf slotPut upFrom askOf lookOf walkOf slotsFrom named badIds totalOf clearedOf madeRecord.badRecord madeRecord.badLent makes.submitRefusal makes.elementOf makes.putTails makes.putChain makes.takenOf makes.submittedOf makes.submitOf usedPoll.pollRefusal usedPoll.freedOf usedPoll.polledOf usedPoll.pollOf madeFresh.freshOf madeFresh.openOf takenRecord.badRecord takenRecord.badLent takes.headRefusal takes.walkRefusal takes.pollRefusal takes.pastOf takes.takenOf takes.pollOf completeRefusal completedOf completeOf handedRefusal staleOf rollbackRefusal backOf rollbackOf takenFresh.freshOf takenFresh.openOf
+stale-answers = refl
+
+-- the checkpoint was taken, and the list names exactly the polls since that are still held
+pub record StaleKept : Type 0 where
+  pub took : stale-polled ≡ stale-since ++ (said.marked fresh ∷ [])
+  pub names-held : (y : ℕ) → times y (1 ∷ []) ≡ times y (ids (after 0 (held stale-polled)))
+  -- three completions came since
+  pub completions : comps stale-polled ≡ done 1 0 ∷ done 1 0 ∷ done 0 5 ∷ []
+
+pub stale-kept : StaleKept
+unfolding comps held polls
+stale-kept = record { took = refl; names-held = λ y. refl; completions = refl }
+
+-- a completion meets another chain's submission: q's second one is taken for r's
+pub record StaleMistaken : Type 0 where
+  -- q was published once and completed twice
+  pub published : pubs stale-mistaken ≡ x ∷ z ∷ p ∷ q ∷ r ∷ []
+  pub completed : items (finished stale-mistaken) ≡ x ∷ z ∷ q ∷ q ∷ []
+  -- before poll_used returned it r was out, and behind it is not; r was never polled
+  pub out-before : out stale-again ≡ p ∷ r ∷ []
+  pub out-behind : out stale-mistaken ≡ p ∷ []
+  pub polled : items (lives stale-mistaken) ≡ x ∷ z ∷ p ∷ q ∷ []
+
+pub stale-mistakes : StaleMistaken
+unfolding pubs finished held out lives polls
+stale-mistakes = record { published = refl; completed = refl; out-before = refl; out-behind = refl; polled = refl }
+
+pub stale-wrong : Right 2 stale-last (said.looked (said.refused said.reclaim true 5)) → ⊥
+stale-wrong = not-five
+
+pub stale-not-fifo : Fifo 2 (historyOf packed world-two stale-calls) → ⊥
+stale-not-fifo f = stale-wrong (subst (Fifo 2) stale-answers f .1)
+
+pub stale-unmet : Each (Asked Undoes) (historyOf packed world-two stale-calls) → ⊥
+stale-unmet m = stale-not-fifo (demand-3 2 0 32 36 (zeros 40) (zeros 2) (zeros 2) (zeros 2) two stale-calls m)
+
+-- ---- (d) "a checkpoint that its end took": one that no poll_checkpoint answered, though it passes 9's tests
+
+-- on a ring of three slots, s is one element and t two. Both are polled and t is completed; no checkpoint is ever taken. The one handed in is
+-- one slot back, inside of t
+abbrev s : Item
+s = record { id = 2; chain = oneOf 4096 16 false }
+
+abbrev t : Item
+t = record { id = 1; chain = chain (8192 ∷ 12288 ∷ []) (16 ∷ 32 ∷ []) 1 }
+
+abbrev inside : Checkpoint
+inside = checkpoint (at 2 true) (at 2 true) 0
+
+abbrev forged-calls : List Given
+forged-calls =
+    polls-for 3
+    ∷ does (rollbackPolls inside (2 ∷ [])) tt
+    ∷ completes 1 48 refl refl
+    ∷ polls-for 3
+    ∷ polls-for 3
+    ∷ submits (t .chain) refl refl
+    ∷ submitsOne 4096 16 false refl refl
+    ∷ []
+
+abbrev forged-rolled : History Checkpoint
+forged-rolled =
+    said.rolled inside (2 ∷ [])
+    ∷ said.completed (done 1 48)
+    ∷ said.polled t
+    ∷ said.polled s
+    ∷ said.submitted t
+    ∷ said.submitted s
+    ∷ []
+
+-- the next poll gives a chain that was never published: the second element of t alone
+abbrev half : Item
+half = record { id = 1; chain = oneOf 12288 32 true }
+
+abbrev forged : History Checkpoint
+forged = said.polled half ∷ forged-rolled
+
+pub forged-answers : historyOf packed world-three forged-calls ≡ forged
+unfolding historyOf worldOf says leaves ownSays ownLeaves bytesOf wordAt putOf getOf step steps isAvail isUsed encodeOf decodeOf markAvail markUsed apart badLayout outside badChain slotOf slotPut upFrom askOf lookOf walkOf slotsFrom named badIds totalOf clearedOf madeRecord.badRecord madeRecord.badLent makes.submitRefusal makes.elementOf makes.putTails makes.putChain makes.takenOf makes.submittedOf makes.submitOf usedPoll.pollRefusal usedPoll.freedOf usedPoll.polledOf usedPoll.pollOf madeFresh.freshOf madeFresh.openOf takenRecord.badRecord takenRecord.badLent takes.headRefusal takes.walkRefusal takes.pollRefusal takes.pastOf takes.takenOf takes.pollOf completeRefusal completedOf completeOf handedRefusal staleOf rollbackRefusal backOf rollbackOf takenFresh.freshOf takenFresh.openOf
+forged-answers = refl
+
+-- the slots of the second of some chains
+slots-second : List Item → ℕ
+slots-second [] = 0
+slots-second (i ∷ []) = 0
+slots-second (i ∷ j ∷ is) = slotsOf (j .chain)
+
+pub forged-wrong : Right 3 forged-rolled (said.polled half) → ⊥
+unfolding pubs lives slots-second
+forged-wrong r = omega (arith, ap slots-second (r .1))
+
+pub forged-not-fifo : Fifo 3 (historyOf packed world-three forged-calls) → ⊥
+forged-not-fifo f = forged-wrong (subst (Fifo 3) forged-answers f .1)
+
+pub forged-unmet : Each (Asked Undoes) (historyOf packed world-three forged-calls) → ⊥
+forged-unmet m = forged-not-fifo (demand-3 3 0 48 52 (zeros 56) (zeros 3) (zeros 3) (zeros 3) three forged-calls m)
+
+-- the same with no completion at all: the poll after it looks inside of t, whose ID is still held, and is refused with 5
+abbrev within : Checkpoint
+within = checkpoint (at 2 true) (at 0 true) 2
+
+abbrev inner-calls : List Given
+inner-calls =
+    polls-for 3
+    ∷ does (rollbackPolls within (2 ∷ [])) tt
+    ∷ polls-for 3
+    ∷ polls-for 3
+    ∷ submits (t .chain) refl refl
+    ∷ submitsOne 4096 16 false refl refl
+    ∷ []
+
+abbrev inner-rolled : History Checkpoint
+inner-rolled = said.rolled within (2 ∷ []) ∷ said.polled t ∷ said.polled s ∷ said.submitted t ∷ said.submitted s ∷ []
+
+abbrev inner : History Checkpoint
+inner = said.looked (said.refused said.poll true 5) ∷ inner-rolled
+
+pub inner-answers : historyOf packed world-three inner-calls ≡ inner
+unfolding historyOf worldOf says leaves ownSays ownLeaves bytesOf wordAt putOf getOf step steps isAvail isUsed encodeOf decodeOf markAvail markUsed apart badLayout outside badChain slotOf slotPut upFrom askOf lookOf walkOf slotsFrom named badIds totalOf clearedOf madeRecord.badRecord madeRecord.badLent makes.submitRefusal makes.elementOf makes.putTails makes.putChain makes.takenOf makes.submittedOf makes.submitOf usedPoll.pollRefusal usedPoll.freedOf usedPoll.polledOf usedPoll.pollOf madeFresh.freshOf madeFresh.openOf takenRecord.badRecord takenRecord.badLent takes.headRefusal takes.walkRefusal takes.pollRefusal takes.pastOf takes.takenOf takes.pollOf completeRefusal completedOf completeOf handedRefusal staleOf rollbackRefusal backOf rollbackOf takenFresh.freshOf takenFresh.openOf
+inner-answers = refl
+
+pub inner-wrong : Right 3 inner-rolled (said.looked (said.refused said.poll true 5)) → ⊥
+inner-wrong = not-five
+
+pub inner-not-fifo : Fifo 3 (historyOf packed world-three inner-calls) → ⊥
+inner-not-fifo f = inner-wrong (subst (Fifo 3) inner-answers f .1)
+
+pub inner-unmet : Each (Asked Undoes) (historyOf packed world-three inner-calls) → ⊥
+inner-unmet m = inner-not-fifo (demand-3 3 0 48 52 (zeros 56) (zeros 3) (zeros 3) (zeros 3) three inner-calls m)

@@ -1,0 +1,1 @@
+// Histories of both ends of the packed ring, computed over bytes: theory alone, no functions.
