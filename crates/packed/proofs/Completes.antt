@@ -38,7 +38,7 @@ use Rattle.packed.proofs.Answers.{either-refused}
 use Rattle.packed.proofs.Position.{pos, round, view, pos-add, pos-low, apart}
 use Rattle.packed.proofs.Counts.{Held, Used, ofItems, ofUsed, dones, hit, occS, occ, slots, tot, Pos, hit-same, hit-other, occ-some, slots-none, one-le, one-no, at-clear, Out1, take-out, both-tot, both-occ, both-slots, both-pos, tot-used, occ-used, slots-used, used-pos, dones-append, has-of-occ}
 use Rattle.packed.proofs.Spells.{Spells, Returns, spells-cong, spells-split, returns-cong, returns-append}
-use Rattle.packed.proofs.Invariant.{Fine, fine-pos, O, F, W, CheckOk, Like, Match, Good, good-by, big, small, free-slots, c-size, c-sound, c-lent, like-look}
+use Rattle.packed.proofs.Invariant.{FineItem, fine-pos, O, F, W, CheckOk, Like, Match, Good, good-by, big, small, free-slots, c-size, c-sound, c-lent, like-look}
 
 -- an ID that holds slots, the other way round
 pub occ-slots : (y : ℕ) (hs : List Held) → Pos hs → 0 < occ y hs → 0 < slots y hs
@@ -85,7 +85,7 @@ module _ (l : Layout) (laid-out : badLayout l ≡ false) where
         let b = both-occ id (q .old) (q .fresh) in
         let low : id < size = by-lt id size (λ r. r) (λ r. absurd (omega (arith, o, b, k .once id, one-no size id r))) in
         let p : Pos (ofItems (items (q .old ++ q .fresh))) =
-        both-pos (q .old) (q .fresh) (k .o-pos) (fine-pos (items (q .fresh)) (all-left Fine (items (q .fresh)) (q .waiting) (k .fine))) in
+        both-pos (q .old) (q .fresh) (k .o-pos) (fine-pos (items (q .fresh)) (all-left FineItem (items (q .fresh)) (q .waiting) (k .fine))) in
         (low, omega (arith, occ-slots id (ofItems (items (q .old ++ q .fresh))) p o, both-slots id (q .old) (q .fresh), k .c-nums id low))
 
     module _ (low : id < size) (some-held : 0 < n) (idr : id < 256 ^ 2) (lenr : len < 256 ^ 4) where
@@ -207,8 +207,8 @@ module _ (l : Layout) (laid-out : badLayout l ≡ false) where
             rounds = rounds′;
             unused = λ p a b. ap (λ (x : Descriptor). has (x .flags) USED) (sym (later p (omega (arith, some-held)) (omega (arith, k .room, k .cu-is)))) ∙ k .unused p (omega arith) b;
             dones-are = ap (λ (x : List Done). x ++ (d ∷ [])) (k .dones-are) ∙ sym (dones-append ret (u ∷ []));
-            fine = all-right Fine (items (q .fresh)) (q .waiting) (k .fine);
-            o-pos = out .pos-is (both-pos (q .old) (q .fresh) (k .o-pos) (fine-pos (items (q .fresh)) (all-left Fine (items (q .fresh)) (q .waiting) (k .fine))));
+            fine = all-right FineItem (items (q .fresh)) (q .waiting) (k .fine);
+            o-pos = out .pos-is (both-pos (q .old) (q .fresh) (k .o-pos) (fine-pos (items (q .fresh)) (all-left FineItem (items (q .fresh)) (q .waiting) (k .fine))));
             r-pos = used-pos ret u (k .r-pos) some-held;
             once = λ y. omega (arith, k .once y, out .occ-is y, both-occ y (q .old) (q .fresh), occ-used y ret u);
             p-nums = λ y b. omega (arith, k .p-nums y b, out .slots-is y, both-slots y (q .old) (q .fresh), slots-used y ret u, ap (hit id y) out-n);

@@ -21,6 +21,7 @@ use Rattle.consumer.specs.declared.Checkpoint.{Checkpoint}
 use Rattle.consumer.proofs.Goes as polls
 use Rattle.queue.specs.History.{Chain, Item, Done, Poll, Event, Look, slotsOf, slotsIn, items}
 use Rattle.queue.specs.History as said
+use Rattle.queue.specs.Promise.{Fine}
 use Rattle.queue.proofs.Listing.{All}
 use Rattle.queue.proofs.Model.{Queue, Mark, next, looking, Ok}
 use Rattle.packed.specs.Machine.{World}
@@ -28,11 +29,11 @@ use Rattle.packed.proofs.Position.{pos, round, view, pos-low, view-arou
 use Rattle.packed.proofs.Counts.{Held, Used, ofItems, ofUsed, dones, occS, occ, slots, tot, Pos, one, slots-tot}
 use Rattle.packed.proofs.Spells.{Spells, Returns, spells-cong, returns-cong}
 
--- a chain that can be published: one element at least, slices of equal length, a readable count within it
-abbrev pub Fine : Item → Type 0
-Fine x = (0 < slotsOf (x .chain)) × ((length (x .chain .addrs) ≡ length (x .chain .lens)) × (x .chain .readable ≤ slotsOf (x .chain)))
+-- an item of such a chain
+abbrev pub FineItem : Item → Type 0
+FineItem x = Fine (x .chain)
 
-pub fine-pos : (xs : List Item) → All Fine xs → Pos (ofItems xs)
+pub fine-pos : (xs : List Item) → All FineItem xs → Pos (ofItems xs)
 fine-pos [] h = tt
 fine-pos (x ∷ xs) h = (h .0 .0, fine-pos xs (h .1))
 
@@ -96,7 +97,7 @@ module _ (l : Layout) where
     pub unused : (p : ℕ) → cu ≤ p → p < pa → has (view size (l .table) (w .ring) p .flags) USED ≡ not (round size p)
     -- the IDs and the tables
     pub dones-are : q .done ≡ dones ret
-    pub fine : All Fine (items (q .fresh) ++ q .waiting)
+    pub fine : All FineItem (items (q .fresh) ++ q .waiting)
     pub o-pos : Pos (O q)
     pub r-pos : Pos (ofUsed ret)
     pub once :

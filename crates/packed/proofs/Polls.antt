@@ -37,7 +37,7 @@ use Rattle.packed.proofs.Answers.{either-done, either-refused, and-true
 use Rattle.packed.proofs.Position.{pos, round, view, pos-add}
 use Rattle.packed.proofs.Counts.{Used, ofItems, ofUsed, hit, occ, slots, tot, hit-same, slots-none, one-le, one-low, tot-poll, occ-poll, slots-poll, at-set}
 use Rattle.packed.proofs.Spells.{Spells, elementAt, spells-split}
-use Rattle.packed.proofs.Invariant.{Fine, O, F, W, Like, Match, Good, good-by, big, small, free-slots, c-size, c-sound, c-lent, c-whole, edge, like-look}
+use Rattle.packed.proofs.Invariant.{FineItem, O, F, W, Like, Match, Good, good-by, big, small, free-slots, c-size, c-sound, c-lent, c-whole, edge, like-look}
 
 module _ (l : Layout) (laid-out : badLayout l ≡ false) where
   abbrev size : ℕ
@@ -69,7 +69,7 @@ module _ (l : Layout) (laid-out : badLayout l ≡ false) where
         let sp : Spells size f (k .ca) (x ∷ xs) =
         subst (λ (n : ℕ). Spells size f n (x ∷ xs)) (sym (k .ca-is))
         (spells-split size f (k .fa) (items (q .fresh)) (x ∷ xs) (subst (λ (ws : List Item). Spells size f (k .fa) (items (q .fresh) ++ ws)) e (k .spelled)) .1) in
-        let fi : Fine x = all-right Fine (items (q .fresh)) (x ∷ xs) (subst (λ (ws : List Item). All Fine (items (q .fresh) ++ ws)) e (k .fine)) .0 in
+        let fi : FineItem x = all-right FineItem (items (q .fresh)) (x ∷ xs) (subst (λ (ws : List Item). All FineItem (items (q .fresh) ++ ws)) e (k .fine)) .0 in
         let t : tot (W q) ≡ tot (ofItems (x ∷ xs)) = ap (λ (ws : List Item). tot (ofItems ws)) e in
         record {
           some-elements = fi .0;
@@ -240,7 +240,7 @@ module _ (l : Layout) (laid-out : badLayout l ≡ false) where
               rounds = k .rounds;
               unused = k .unused;
               dones-are = k .dones-are;
-              fine = subst (All Fine) (sym moved) (k .fine);
+              fine = subst (All FineItem) (sym moved) (k .fine);
               o-pos = k .o-pos;
               r-pos = k .r-pos;
               once = λ y. omega (arith, k .once y, occ-w y, rest-occ y, occ-poll y (q .fresh) pl);

@@ -38,7 +38,7 @@ use Rattle.packed.proofs.Counts.{Held, Used, ofItems, ofUsed, occS, occ
 use Rattle.packed.proofs.Spells.{Spells}
 use Rattle.packed.proofs.Named.{occ-times, none-bad, same-total, own-slots, total-polls, cleared-at}
 use Rattle.packed.proofs.Completes.{occ-slots}
-use Rattle.packed.proofs.Invariant.{Fine, fine-pos, O, F, W, CheckOk, Like, Match, Good, good-by, big, free-slots, c-size, c-sound, like-marks, like-look}
+use Rattle.packed.proofs.Invariant.{FineItem, fine-pos, O, F, W, CheckOk, Like, Match, Good, good-by, big, free-slots, c-size, c-sound, like-marks, like-look}
 
 module _ (l : Layout) (laid-out : badLayout l ≡ false) where
   abbrev size : ℕ
@@ -127,8 +127,8 @@ module _ (l : Layout) (laid-out : badLayout l ≡ false) where
         back-pos : Pos (ofItems (items back))
         back-pos =
             fine-pos (items back)
-            (all-right Fine (items up) (items back)
-            (subst (All Fine) (ap items (sym parts) ∙ items-append up back) (all-left Fine (items (q .fresh)) (q .waiting) (k .fine))))
+            (all-right FineItem (items up) (items back)
+            (subst (All FineItem) (ap items (sym parts) ∙ items-append up back) (all-left FineItem (items (q .fresh)) (q .waiting) (k .fine))))
 
         -- each named ID is the ring's and has a count
         named-ok : (y : ℕ) → 0 < times y js → (y < size) × (0 < getD (w .held) y 0)
@@ -164,6 +164,18 @@ module _ (l : Layout) (laid-out : badLayout l ≡ false) where
 
         check : (u .mark .value .used ≡ pos size (k .cu)) × ((u .mark .value .inflight ≡ tot (O q) + tot (ofItems (items (u .mark .stood)))) × (u .mark .value .avail ≡ pos size (k .cu + u .mark .value .inflight)))
         check = all-of (CheckOk size (q .comps) (k .cu) (tot (O q))) (u .mark) (q .marks) (u .taken) (k .checks) .1 (u .same-comps)
+
+        -- it is on the ring
+        taken-on-ring : on-ring ≡ true
+        taken-on-ring =
+            let v = u .value in
+            let s = c-size l laid-out ret w q k in
+            let a : cp .avail .head < size =
+            subst (λ (x : RingCursor). x .head < size) (sym (check .1 .1) ∙ ap (λ (x : Checkpoint). x .avail) v) (pos-low size (big l laid-out) (k .cu + u .mark .value .inflight)) in
+            let d : cp .used .head < size =
+            subst (λ (x : RingCursor). x .head < size) (sym (check .0) ∙ ap (λ (x : Checkpoint). x .used) v) (pos-low size (big l laid-out) (k .cu)) in
+            and-true (ltb (cp .avail .head) (w .cons .layout .size)) (ltb (cp .used .head) (w .cons .layout .size))
+            (lt-ltb (cp .avail .head) (w .cons .layout .size) (omega (arith, s, a))) (lt-ltb (cp .used .head) (w .cons .layout .size) (omega (arith, s, d)))
 
         -- where every poll that stood at the checkpoint stands, nothing is stale
         stands-current : up ≡ u .mark .stood → staleOf (w .cons) cp (totalOf (w .held) js) ≡ false
@@ -243,7 +255,7 @@ module _ (l : Layout) (laid-out : badLayout l ≡ false) where
               rounds = k .rounds;
               unused = k .unused;
               dones-are = k .dones-are;
-              fine = subst (All Fine) (sym again) (k .fine);
+              fine = subst (All FineItem) (sym again) (k .fine);
               o-pos = k .o-pos;
               r-pos = k .r-pos;
               once = λ y. omega (arith, k .once y, occs y, items-occ y (items back) (q .waiting));
@@ -304,7 +316,7 @@ module _ (l : Layout) (laid-out : badLayout l ≡ false) where
           (rollback-stopped (w .cons) (w .held) cp js (λ y. omega (arith, handed-bad (w .cons) cp (length (w .held)) (off f) 0, y))
           ∙ ap (λ (m : ℕ). rolled (refused m) (w .cons) (w .held)) (handed-bad (w .cons) cp (length (w .held)) (off f) 0))
           f
-          (refl, (ret, like-look l laid-out ret w q k (said.refused (said.rollback cp js) false 7) (k .promise))))
+          ((refl, λ ua. true-false (sym (taken-on-ring (ua .undo)) ∙ f)), (ret, like-look l laid-out ret w q k (said.refused (said.rollback cp js) false 7) (k .promise))))
         where
           true-false : true ≡ false → ⊥
           true-false e = let y : _≡_ {A = ℕ} 0 1 = cc in omega arith

@@ -70,7 +70,7 @@ module _ (l : Layout) (laid-out : badLayout l ≡ false) where
         next-done (w .prod) (w .ids) (w .counts)
         (next-goes (w .prod) (w .ids) (w .counts) r (omega (arith, s, k .ids-whole)) (omega (arith, s, k .counts-whole)) h (omega (arith, s, top-low h)) (top-count h)) in
         good-by l q _ (said.looked (said.nexted top)) w w (ap saysNext e) refl
-        ((top-low h, (top-unlike h, omega (arith, k .heights))), (ret, like-look l laid-out ret w q k (said.nexted top) (λ i p. (h, first p)))))
+        ((top-low h, (top-unlike h, (omega (arith, k .heights), λ j p. k .promise j p .1))), (ret, like-look l laid-out ret w q k (said.nexted top) (λ i p. (h, first p)))))
         (λ h.
         let n = next-none (w .prod) (w .ids) (w .counts) r (omega (arith, s, k .ids-whole)) (omega (arith, s, k .counts-whole)) (omega arith) in
         let e : nextOf (w .prod) (w .ids) (w .counts) ≡ refused 4 =

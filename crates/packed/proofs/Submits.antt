@@ -40,7 +40,7 @@ use Rattle.packed.proofs.Answers.{either-refused}
 use Rattle.packed.proofs.Position.{pos, round, view, pos-add, apart}
 use Rattle.packed.proofs.Counts.{Used, ofItems, ofUsed, hit, occS, occ, slots, tot, pos-len, pos-snoc, at-set, tot-item, occ-item, slots-item, items-tot}
 use Rattle.packed.proofs.Spells.{Spell, Spells, spells-cong, spells-append, returns-cong, spell-flags}
-use Rattle.packed.proofs.Invariant.{Fine, O, F, W, Like, Match, Good, good-by, big, free-slots, free-in, p-size, p-sound, p-lent, like-look}
+use Rattle.packed.proofs.Invariant.{FineItem, O, F, W, Like, Match, Good, good-by, big, free-slots, free-in, p-size, p-sound, p-lent, like-look}
 use Rattle.packed.proofs.Stack.{popped, top-low, top-count, top-unlike}
 
 module _ (l : Layout) (laid-out : badLayout l ≡ false) where
@@ -202,7 +202,7 @@ module _ (l : Layout) (laid-out : badLayout l ≡ false) where
             unused = λ p a b.
                 flags-at USED (λ (r : ℕ). not (round size r)) (λ r d e. spell-flags size g (k .pa) it new r d e .1) p (omega (arith, k .room, k .cu-is, enough)) b (λ h. k .unused p a h);
             dones-are = k .dones-are;
-            fine = subst (All Fine) (append-assoc (items (q .fresh)) (q .waiting) (it ∷ [])) (all-append Fine (items (q .fresh) ++ q .waiting) (it ∷ []) (k .fine) ((some-elements, (gd .equal, gd .within)), tt));
+            fine = subst (All FineItem) (append-assoc (items (q .fresh)) (q .waiting) (it ∷ [])) (all-append FineItem (items (q .fresh) ++ q .waiting) (it ∷ []) (k .fine) ((some-elements, (gd .equal, gd .within)), tt));
             o-pos = k .o-pos;
             r-pos = k .r-pos;
             once = λ y. omega (arith, k .once y, popped l laid-out ret w q k some-left y, occ-item y (q .waiting) it);
@@ -223,12 +223,13 @@ module _ (l : Layout) (laid-out : badLayout l ≡ false) where
 
       submit-gives : Good l q (saysSubmitted c (submitsOf w c .answer)) (afterMade w (submitsOf w c))
       submit-gives =
+          let gd = good (length (c .addrs)) (length (c .lens)) (c .readable) fits-chain in
           good-by l q _ (said.submitted it) _ submit-world (ap (λ (o : Outcome). saysSubmitted c (o .answer)) is-submitted) world-is (
             (
               top-low l laid-out ret w q k some-left,
               (
                 top-unlike l laid-out ret w q k some-left,
-                (some-elements, (omega (arith, free-in l laid-out ret w q k, enough), λ i e. k .promise i e .1)),
+                ((some-elements, (gd .equal, gd .within)), (omega (arith, free-in l laid-out ret w q k, enough), λ i e. k .promise i e .1)),
               ),
             ),
             (ret, submit-like),

@@ -60,8 +60,8 @@ run = looked (refused reclaim true 3) ∷ reclaimed da ∷ (reclaimings ++ compl
 ok-begun : AllOk 4 begun
 unfolding model next
 ok-begun = (
-  ((tt, (omega arith, (tt, omega arith))), (omega arith, (tt, (omega arith, (omega arith, λ i e. cc e))))),
-  (omega arith, ((omega arith, tt), (omega arith, (omega arith, λ i e. cc e)))),
+  ((tt, (omega arith, (tt, (omega arith, λ j e. cc e)))), (omega arith, (tt, ((omega arith, (refl, omega arith)), (omega arith, λ i e. cc e))))),
+  (omega arith, ((omega arith, tt), ((omega arith, (refl, omega arith)), (omega arith, λ i e. cc e)))),
 )
 
 -- the premise of the rollback, by the queue: the list names the one poll since the checkpoint

@@ -4,8 +4,8 @@ use Prim.Native.Nat.{ℕ}
 use mathlib.Core.List.{List, [], _∷_}
 use Rattle.queue.specs.History.{Look, Event, History}
 use Rattle.queue.specs.History.{nexted, peeked, quiet, refused, astray, submitted, polled, completed, reclaimed, marked, rolled, looked}
-use Rattle.queue.specs.Promise.{Undoes, UndoesAll, AskedLook, Asked, Each, Fifo}
-use Rattle.queue.proofs.Model.{Queue, start, next, model, Undo, UndoAll, Ok, AllOk, GrantLook, Grant}
+use Rattle.queue.specs.Promise.{Undoes, UndoesAll, Asked, Each, Fifo}
+use Rattle.queue.proofs.Model.{Queue, start, next, model, Undo, UndoAll, Ok, AllOk, Grant}
 use Rattle.queue.proofs.Trace.{fifo, undo-of, undo-all-of}
 
 pub record Machine (C : Type 0) : Type 1 where
@@ -32,13 +32,6 @@ module _ {C : Type 0} where
   abbrev pub standing : Terms C
   standing = record { Premise = UndoesAll; Granted = UndoAll; grants = undo-all-of }
 
-  grant-look : (l : Look C) → AskedLook l → GrantLook l
-  grant-look (nexted i) a = tt
-  grant-look (peeked b) a = tt
-  grant-look quiet a = tt
-  grant-look (refused c g n) a = tt
-  grant-look (astray n) a = a
-
   -- what is asked of an event by the history is granted by the queue
   pub grant : (terms : Terms C) (size : ℕ) (h : History C) → AllOk size h → (e : Event C) → Asked (terms .Premise) h e → Grant (terms .Granted) (model h) e
   grant terms size h o (submitted x) a = tt
@@ -47,7 +40,7 @@ module _ {C : Type 0} where
   grant terms size h o (reclaimed d) a = tt
   grant terms size h o (marked c) a = tt
   grant terms size h o (rolled c js) a = terms .grants size h o c js a
-  grant terms size h o (looked l) a = grant-look l a
+  grant terms size h o (looked l) a = a
 
   module _ (M : Machine C) (w : M .World) where
     -- the world after these calls, THE LATEST FIRST, and their history

@@ -8,7 +8,7 @@ use mathlib.Core.Bool.{Bool, true, false}
 use lib.ListN.{length, drop}
 use Rattle.queue.specs.History.{Chain, Item, Done, Call, Look, Event, History, Poll, slotsOf, slotsIn, items, ids, upto, after, butLast, without, withoutItem, times}
 use Rattle.queue.specs.History.{submit, poll, complete, reclaim, rollback, nextId, other, nexted, peeked, quiet, refused, astray, submitted, polled, completed, reclaimed, marked, rolled, looked}
-use Rattle.queue.specs.Promise.{Has, Unlike, RightBadNo}
+use Rattle.queue.specs.Promise.{Has, Unlike, Fine, AskedLook}
 
 -- a checkpoint that was taken: its value, how many polls and completions came before it, and the polls that a rollback could have undone
 pub record Mark (C : Type 0) : Type 0 where
@@ -90,8 +90,17 @@ module _ {C : Type 0} where
     pub undo : Undo q c js
     pub stand : upto (undo .mark .polls) (q .fresh) ≡ undo .mark .stood
 
+  -- which answers the queue allows
+  abbrev pub OkBadNo : Queue C → Call C → ℕ → Type 0
+  OkBadNo q (submit c) n = n ≡ 8
+  OkBadNo q poll n = n ≡ 8
+  OkBadNo q (complete d) n = ⊥
+  OkBadNo q reclaim n = ⊥
+  OkBadNo q (rollback c js) n = (n ≡ 7) × (UndoAll q c js → ⊥)
+  OkBadNo q nextId n = ⊥
+  OkBadNo q other n = n ≡ 7
+
   module _ (size : ℕ) where
-    -- which answers the queue allows
     abbrev pub OkNo : Queue C → Call C → ℕ → Type 0
     OkNo q (submit c) n =
         ((n ≡ 1) × (slotsOf c ≡ 0)) ⊎ ((n ≡ 3) × ((0 < slotsOf c) × (size < slotsIn (q .out) + slotsOf c)))
@@ -103,18 +112,18 @@ module _ {C : Type 0} where
     OkNo q other n = ⊥
 
     abbrev pub OkLook : Queue C → Look C → Type 0
-    OkLook q (nexted i) = (i < size) × (Unlike i (q .out) × (length (q .out) < size))
+    OkLook q (nexted i) = (i < size) × (Unlike i (q .out) × ((length (q .out) < size) × ((j : ℕ) → q .promised ≡ j ∷ [] → i ≡ j)))
     OkLook q (peeked b) = ((b ≡ true) × (0 < length (q .waiting))) ⊎ ((b ≡ false) × (q .waiting ≡ []))
     OkLook q quiet = Unit
     OkLook q (refused c true n) = OkNo q c n
-    OkLook q (refused c false n) = RightBadNo c n
+    OkLook q (refused c false n) = OkBadNo q c n
     OkLook q (astray n) = Unit
 
     abbrev pub Ok : Queue C → Event C → Type 0
     Ok q (submitted x) =
         (x .id < size)
         × (Unlike (x .id) (q .out)
-        × ((0 < slotsOf (x .chain))
+        × (Fine (x .chain)
         × ((slotsIn (q .out) + slotsOf (x .chain) ≤ size)
         × ((i : ℕ) → q .promised ≡ i ∷ [] → x .id ≡ i))))
     Ok q (polled x) = (later : List Item) × (q .waiting ≡ x ∷ later)
@@ -129,13 +138,6 @@ module _ {C : Type 0} where
     AllOk (e ∷ h) = AllOk h × Ok (model h) e
 
   -- what a ring may count on of an event, by the queue: the same of an accepted rollback, and of a call that went astray
-  abbrev pub GrantLook : Look C → Type 0
-  GrantLook (nexted i) = Unit
-  GrantLook (peeked b) = Unit
-  GrantLook quiet = Unit
-  GrantLook (refused c g n) = Unit
-  GrantLook (astray n) = (n ≡ 7) ⊎ (n ≡ 8)
-
   abbrev pub Grant : (Queue C → C → List ℕ → Type 0) → Queue C → Event C → Type 0
   Grant R q (submitted x) = Unit
   Grant R q (polled x) = Unit
@@ -143,4 +145,4 @@ module _ {C : Type 0} where
   Grant R q (reclaimed d) = Unit
   Grant R q (marked c) = Unit
   Grant R q (rolled c js) = R q c js
-  Grant R q (looked l) = GrantLook l
+  Grant R q (looked l) = AskedLook l

@@ -291,7 +291,7 @@ module _ {C : Type 0} where
   fit size (submitted x ∷ h) o =
       let ih : Slotted (out h) × (slotsIn (out h) ≤ size) = fit size h (o .0) in
       let e : out h ≡ model h .out = link size h (o .0) .out-is in (
-        all-append (λ (i : Item). 0 < slotsOf (i .chain)) (out h) (x ∷ []) (ih .0) (o .1 .1 .1 .0, tt),
+        all-append (λ (i : Item). 0 < slotsOf (i .chain)) (out h) (x ∷ []) (ih .0) (o .1 .1 .1 .0 .0, tt),
         omega (arith, slots-append (out h) (x ∷ []), ap slotsIn e, o .1 .1 .1 .1 .0),
       )
   fit size (polled x ∷ h) o = fit size h (o .0)

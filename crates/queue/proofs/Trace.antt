@@ -11,8 +11,8 @@ use lib.ListN.{length, drop, length-append}
 use lib.Seq.{drop-at}
 use Rattle.queue.specs.History.{Item, Done, Call, Look, Event, History, Poll, items, ids, upto, after, butLast, without, times, pubs, polls, comps, reclaims, lives, held, out, promised, waiting}
 use Rattle.queue.specs.History.{submit, poll, complete, reclaim, rollback, nextId, other, nexted, peeked, quiet, refused, astray, submitted, polled, completed, reclaimed, marked, rolled, looked}
-use Rattle.queue.specs.Promise.{Undoes, UndoesAll, RightNo, RightLook, Right, Fifo}
-use Rattle.queue.proofs.Model.{Mark, Queue, start, tail, Member, markOf, looking, next, model, Undo, UndoAll, OkNo, OkLook, Ok, AllOk}
+use Rattle.queue.specs.Promise.{Undoes, UndoesAll, RightBadNo, RightNo, RightLook, Right, Fifo}
+use Rattle.queue.proofs.Model.{Mark, Queue, start, tail, Member, markOf, looking, next, model, Undo, UndoAll, OkBadNo, OkNo, OkLook, Ok, AllOk}
 use Rattle.queue.proofs.Listing.{All, all-append, all-map, all-of, Under, Rising, under-mono, rising-snoc, rising-take, items-append, length-items, upto-under, after-under, but-last-rest, but-last-append, all-but-last, named-fit, member-left, member-last, member-snoc, nil-of}
 
 -- of a mark with as many completions as now, no poll before the last completion came after it
@@ -447,12 +447,21 @@ module _ {C : Type 0} where
     right-no nextId n o = rw (l .out-is) o
     right-no other n o = o
 
+    right-bad-no : (c : Call C) (n : ℕ) → OkBadNo (model h) c n → RightBadNo h c n
+    right-bad-no (submit c) n o = o
+    right-bad-no poll n o = o
+    right-bad-no (complete d) n o = o
+    right-bad-no reclaim n o = o
+    right-bad-no (rollback c js) n o = (o .0, λ a. o .1 (undo-all-of size h ok c js a))
+    right-bad-no nextId n o = o
+    right-bad-no other n o = o
+
     right-look : (k : Look C) → OkLook size (model h) k → RightLook size h k
-    right-look (nexted i) o = rw (l .out-is) o
+    right-look (nexted i) o = rw (l .out-is, l .promised-is) o
     right-look (peeked b) o = rw waiting-is o
     right-look quiet o = tt
     right-look (refused c true n) o = right-no c n o
-    right-look (refused c false n) o = o
+    right-look (refused c false n) o = right-bad-no c n o
     right-look (astray n) o = tt
 
     right : (e : Event C) → Ok size (model h) e → Right size h e
@@ -491,12 +500,21 @@ module _ {C : Type 0} where
     ok-no nextId n r = rw (← k .out-is) r
     ok-no other n r = r
 
+    ok-bad-no : (c : Call C) (n : ℕ) → RightBadNo h c n → OkBadNo (model h) c n
+    ok-bad-no (submit c) n r = r
+    ok-bad-no poll n r = r
+    ok-bad-no (complete d) n r = r
+    ok-bad-no reclaim n r = r
+    ok-bad-no (rollback c js) n r = (r .0, λ a. r .1 (undoes-all-of size h ok c js a))
+    ok-bad-no nextId n r = r
+    ok-bad-no other n r = r
+
     ok-look : (z : Look C) → RightLook size h z → OkLook size (model h) z
-    ok-look (nexted i) r = rw (← k .out-is) r
+    ok-look (nexted i) r = rw (← k .out-is, ← k .promised-is) r
     ok-look (peeked b) r = rw (← waiting-is size h ok) r
     ok-look quiet r = tt
     ok-look (refused c true n) r = ok-no c n r
-    ok-look (refused c false n) r = r
+    ok-look (refused c false n) r = ok-bad-no c n r
     ok-look (astray n) r = tt
 
     ok-of : (e : Event C) → Right size h e → Ok size (model h) e

@@ -17,6 +17,10 @@ abbrev pub Unlike : ℕ → List Item → Type 0
 Unlike x [] = Unit
 Unlike x (y ∷ ys) = (y .id ≢ x) × Unlike x ys
 
+-- a chain that may be published: one element at least, as many lengths as addresses, a readable count within them
+abbrev pub Fine : Chain → Type 0
+Fine c = (0 < slotsOf c) × ((length (c .addrs) ≡ length (c .lens)) × (c .readable ≤ slotsOf c))
+
 module _ {C : Type 0} where
   -- ---- what is asked of the callers
 
@@ -62,14 +66,15 @@ module _ {C : Type 0} where
 
   -- "7 only for what that call was handed, 8 only for slices too short or unequal in that call": a submission's slices and a poll's
   -- outputs give 8, a rollback's checkpoint and the cursor of a question 7; the other calls are handed nothing that can be bad
-  abbrev pub RightBadNo : Call C → ℕ → Type 0
-  RightBadNo (submit c) n = n ≡ 8
-  RightBadNo poll n = n ≡ 8
-  RightBadNo (complete d) n = ⊥
-  RightBadNo reclaim n = ⊥
-  RightBadNo (rollback c js) n = n ≡ 7
-  RightBadNo nextId n = ⊥
-  RightBadNo other n = n ≡ 7
+  -- (and no checkpoint that this end answered, with a list that meets the premise, is off the ring)
+  abbrev pub RightBadNo : History C → Call C → ℕ → Type 0
+  RightBadNo h (submit c) n = n ≡ 8
+  RightBadNo h poll n = n ≡ 8
+  RightBadNo h (complete d) n = ⊥
+  RightBadNo h reclaim n = ⊥
+  RightBadNo h (rollback c js) n = (n ≡ 7) × (UndoesAll h c js → ⊥)
+  RightBadNo h nextId n = ⊥
+  RightBadNo h other n = n ≡ 7
 
   module _ (size : ℕ) where
     -- a refusal of a call that was given the end's own and whose slices, outputs, cursors and checkpoints were good
@@ -91,21 +96,22 @@ module _ {C : Type 0} where
     RightNo h other n = ⊥
 
     abbrev pub RightLook : History C → Look C → Type 0
-    RightLook h (nexted i) = (i < size) × (Unlike i (out h) × (length (out h) < size))
+    -- an ID that is free; the one that was answered before, if nothing was submitted or returned since
+    RightLook h (nexted i) = (i < size) × (Unlike i (out h) × ((length (out h) < size) × ((j : ℕ) → promised h ≡ j ∷ [] → i ≡ j)))
     -- "peek_available says yes exactly if a chain waits"
     RightLook h (peeked b) = ((b ≡ true) × (0 < length (waiting h))) ⊎ ((b ≡ false) × (waiting h ≡ []))
     RightLook h quiet = Unit
     RightLook h (refused c true n) = RightNo h c n
-    RightLook h (refused c false n) = RightBadNo c n
+    RightLook h (refused c false n) = RightBadNo h c n
     RightLook h (astray n) = Unit
 
     abbrev pub Right : History C → Event C → Type 0
-    -- "an ID given is the ID of no chain whose completion poll_used has not yet returned"; there were elements, and free slots for them;
+    -- "an ID given is the ID of no chain whose completion poll_used has not yet returned"; its slices were good, and there were free slots;
     -- "next_id is the ID that the next submission gets"
     Right h (submitted x) =
         (x .id < size)
         × (Unlike (x .id) (out h)
-        × ((0 < slotsOf (x .chain))
+        × (Fine (x .chain)
         × ((slotsIn (out h) + slotsOf (x .chain) ≤ size)
         × ((i : ℕ) → promised h ≡ i ∷ [] → x .id ≡ i))))
     -- "a poll returns the oldest published chain whose polls, if any, were all rolled back, element for element": the polls that stand
