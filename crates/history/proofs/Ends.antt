@@ -19,7 +19,7 @@ use Rattle.packed.specs.Calls.{Own, Foreign, Typed, TypedChain, oneOf}
 use Rattle.packed.specs.Calls.{submitAvailable, submitOne, pollAvailable, submitUsed, own, foreign}
 use Rattle.packed.specs.Machine.{World}
 use Rattle.packed.specs.Opening.{Opening, openedWorld}
-use Rattle.packed.proofs.Packed.{Given}
+use Rattle.packed.specs.Machine.{Given}
 
 -- ---- the openings
 

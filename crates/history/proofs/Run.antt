@@ -36,10 +36,11 @@ use Rattle.consumer.specs.Fresh as takenFresh
 use Rattle.queue.specs.History.{Item, Done, History, items, pubs, polls, comps, reclaims, lives, held, finished, out}
 use Rattle.queue.specs.History as said
 use Rattle.queue.specs.Promise.{Undoes, Asked, Each, Fifo}
-use Rattle.queue.proofs.Machine.{worldOf, historyOf}
+use Rattle.queue.specs.Machine.{worldOf, historyOf}
 use Rattle.packed.specs.Calls.{oneOf, submitOneWithNotify, pollUsed, nextId, turnUsed, submitUsedWithNotify, peekAvailable, pollCheckpoint, rollbackPolls, producers}
 use Rattle.packed.specs.Machine.{World, tellsOf, ownSays, ownLeaves, says, leaves}
-use Rattle.packed.proofs.Packed.{Given, packed, demand-3}
+use Rattle.packed.specs.Machine.{Given, packed}
+use Rattle.packed.proofs.Packed.{demand-3}
 use Rattle.history.proofs.Ends.{zeros, three, world-three, typed, does, strays, chain, submits, submitsOne, completes, ids-fit, polls-for, checkpoint}
 
 -- ---- the chains, their IDs, and their completions

@@ -31,10 +31,11 @@ use Rattle.consumer.specs.Fresh as takenFresh
 use Rattle.queue.specs.History.{Item, Done, History, slotsOf, items, ids, after, times, pubs, polls, comps, lives, held, finished, out}
 use Rattle.queue.specs.History as said
 use Rattle.queue.specs.Promise.{Has, Undoes, Asked, Each, Right, Fifo}
-use Rattle.queue.proofs.Machine.{worldOf, historyOf}
+use Rattle.queue.specs.Machine.{worldOf, historyOf}
 use Rattle.packed.specs.Calls.{oneOf, pollUsed, pollCheckpoint, rollbackPolls}
 use Rattle.packed.specs.Machine.{ownSays, ownLeaves, says, leaves}
-use Rattle.packed.proofs.Packed.{Given, packed, demand-3}
+use Rattle.packed.specs.Machine.{Given, packed}
+use Rattle.packed.proofs.Packed.{demand-3}
 use Rattle.history.proofs.Ends.{zeros, two, three, world-two, world-three, does, chain, submits, submitsOne, completes, polls-for, checkpoint}
 
 abbrev done : ℕ → ℕ → Done

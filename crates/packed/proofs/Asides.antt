@@ -1,14 +1,14 @@
 -- Questions and notifications: they are answered, and change nothing of what the invariant speaks of.
 -- Assumes nothing.
-use Prim.Native.Nat.{ℕ, _+_, _*_, _≤_, _<_}
+use Prim.Native.Nat.{ℕ}
 use mathlib.Core.Path.{_≡_, refl, sym, ap, _∙_}
 use mathlib.Core.Logic.{_⊎_, inl, inr, ⊎-elim}
 use mathlib.Core.Bool.{Bool, true, false}
-use mathlib.Core.List.{List, [], _∷_}
+use mathlib.Core.List.{List, []}
 use native.Mathlib.Omega.{arith}
 use lib.Dec.{ltb}
 use lib.ListN.{length}
-use borrow.Author.Tests.{lt-ltb, le-ltb, le-leb}
+use borrow.Author.Tests.{le-ltb, le-leb}
 use Rattle.base.specs.Answer.{Answer, done, refused}
 use Rattle.base.specs.Bytes.{getOf}
 use Rattle.base.proofs.Tests.{by-lt, by-eq}
@@ -16,7 +16,7 @@ use Rattle.cursor.specs.declared.RingCursor.{RingCursor}
 use Rattle.layout.specs.declared.Layout.{Layout}
 use Rattle.layout.specs.Layout.{badLayout, tableBytes}
 use Rattle.layout.proofs.Laws.{Apart, laid}
-use Rattle.ring.specs.Slots.{placeOf, slotOf}
+use Rattle.ring.specs.Slots.{placeOf}
 use Rattle.ring.specs.Events.{turned, armed}
 use Rattle.ring.specs.Asked.{askOf}
 use Rattle.ring.proofs.Asked.{ask-good}
@@ -39,9 +39,9 @@ use Rattle.queue.specs.History as said
 use Rattle.queue.proofs.Model.{Queue}
 use Rattle.packed.specs.Machine.{World, saysQuiet, afterUsedTurn, afterAvailTurn}
 use Rattle.packed.proofs.Answers.{either-refused}
-use Rattle.packed.proofs.Position.{pos, view, pos-low}
+use Rattle.packed.proofs.Position.{pos, pos-low}
 use Rattle.packed.proofs.Counts.{Used}
-use Rattle.packed.proofs.Invariant.{Like, Good, good-by, big, p-size, p-sound, p-whole, c-sound, c-whole, like-look, like-same}
+use Rattle.packed.proofs.Invariant.{Like, Good, good-by, big, p-sound, p-whole, c-sound, c-whole, like-look, like-same}
 
 module _ (l : Layout) (laid-out : badLayout l ≡ false) where
   abbrev size : ℕ

@@ -3,13 +3,14 @@
 -- Assumes nothing.
 use Prim.Native.Nat.{ℕ}
 use mathlib.Core.Path.{_≡_, refl, sym, ap, _∙_}
-use mathlib.Core.Bool.{Bool, true, false, _||_}
-use mathlib.Core.List.{List, []}
+use mathlib.Core.Logic.{_⊎_, inl, inr}
+use mathlib.Core.Bool.{Bool, true, _||_}
+use mathlib.Core.List.{List}
 use native.Mathlib.Omega.{arith}
 use lib.Dec.{eqb}
 use lib.ListN.{length}
 use borrow.Author.Tests.{eqb-true}
-use Rattle.base.specs.Answer.{Answer, done, refused}
+use Rattle.base.specs.Answer.{Answer, refused}
 use Rattle.base.proofs.Tests.{split, by-eq}
 use Rattle.ring.specs.Slots.{slotOf}
 use Rattle.producer.specs.Outcome as made
@@ -35,9 +36,9 @@ use Rattle.consumer.proofs.Notices as availLaws
 use Rattle.consumer.proofs.Goes as takes
 use Rattle.queue.specs.History.{Chain, Event}
 use Rattle.queue.specs.History as said
-use Rattle.packed.specs.Calls.{Own, oneOf}
+use Rattle.packed.specs.Calls.{Own, Foreign, oneOf, foreign}
 use Rattle.packed.specs.Calls.{submitAvailable, submitAvailableWithNotify, submitOne, submitOneWithNotify, pollUsed, nextId, producerAsked, shouldNotifySince, turnUsed, enableUsedDesc, enableUsedForNext, pollAvailable, submitUsed, submitUsedWithNotify, peekAvailable, pollCheckpoint, rollbackPolls, consumerAsked, turnAvail, enableAvailDesc, enableAvailForNext}
-use Rattle.packed.specs.Machine.{World, numberOf, either, no, submitsOf, tellsOf, afterMade, afterUsedTurn, afterTaken, afterCompleted, afterRolled, afterAvailTurn, ownSays, ownLeaves}
+use Rattle.packed.specs.Machine.{World, numberOf, either, no, submitsOf, tellsOf, afterMade, afterUsedTurn, afterTaken, afterCompleted, afterRolled, afterAvailTurn, ownSays, ownLeaves, astrayIn, asked, says}
 
 -- the number that is read off an answer is the answer's
 either-number : (a : Answer) (x : Event Checkpoint) (c : said.Call Checkpoint) (g : Bool) → numberOf x ≡ 0 → numberOf (either a x (no c g a)) ≡ a .number
@@ -165,3 +166,13 @@ module _ (w : World) where
   refused-leaves (turnAvail f) h = turn-avail-kept f (λ z. h (either-number (availNotices.turnOf (w .cons) (w .ring) f .answer) (said.looked said.quiet) said.other true refl ∙ z))
   refused-leaves (enableAvailDesc o b) h = arm-avail-kept o b (λ z. h (either-number (availNotices.armOf (w .cons) (w .ring) o b .answer) (said.looked said.quiet) said.other true refl ∙ z))
   refused-leaves enableAvailForNext h = arm-avail-kept (w .cons .avail .head) (w .cons .avail .wrap) (λ z. h (either-number (availNotices.armOf (w .cons) (w .ring) (w .cons .avail .head) (w .cons .avail .wrap) .answer) (said.looked said.quiet) said.other true refl ∙ z))
+
+-- "Calls refused for bad records or buffers aren't counted": a call given a foreign record, tables or bytes and answered 7 or 8 leaves all that
+-- it was given as it was, so nothing has to be put back before the end gets its own last again
+pub astray-leaves : (w : World) (f : Foreign) (n : ℕ) → says w (foreign f) ≡ said.looked (said.astray n) → (n ≡ 7) ⊎ (n ≡ 8) → ownLeaves (astrayIn w f) (asked f) ≡ astrayIn w f
+unfolding says
+astray-leaves w f n e b = refused-leaves (astrayIn w f) (asked f) (λ z. not-zero b (sym (ap numberOf e) ∙ z))
+  where
+    not-zero : (n ≡ 7) ⊎ (n ≡ 8) → n ≡ 0 → ⊥
+    not-zero (inl a) z = omega (arith, a, z)
+    not-zero (inr a) z = omega (arith, a, z)

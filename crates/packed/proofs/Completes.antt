@@ -2,14 +2,14 @@
 -- Assumes nothing.
 use Prim.Native.Nat.{ℕ, suc, _+_, _-_, _*_, _^_, _≤_, _<_}
 use mathlib.Core.Path.{_≡_, refl, sym, ap, ap₂, _∙_, subst}
-use mathlib.Core.Logic.{_⊎_, inl, inr}
-use mathlib.Core.Bool.{Bool, true, false, not, cond, _||_}
+use mathlib.Core.Logic.{inl, inr}
+use mathlib.Core.Bool.{true, false, not, cond}
 use mathlib.Core.List.{List, [], _∷_, _++_}
 use native.Mathlib.Omega.{arith}
-use lib.Dec.{ltb, leb, eqb}
-use lib.ListN.{length, getD, set, take, length-set}
-use borrow.Author.Tests.{le-leb, lt-leb, eq-eqb, ne-eqb}
-use Rattle.base.specs.Answer.{Answer, done, refused}
+use lib.Dec.{eqb}
+use lib.ListN.{length, getD, set, length-set}
+use borrow.Author.Tests.{le-leb, lt-leb, eq-eqb}
+use Rattle.base.specs.Answer.{done, refused}
 use Rattle.base.proofs.Tests.{by-lt, by-eq}
 use Rattle.cursor.specs.declared.RingCursor.{RingCursor}
 use Rattle.cursor.specs.Cursor.{steps}
@@ -20,25 +20,25 @@ use Rattle.desc.proofs.Flags.{marked-used, used-ranged}
 use Rattle.layout.specs.declared.Layout.{Layout}
 use Rattle.layout.specs.Layout.{badLayout, outside}
 use Rattle.layout.proofs.Laws.{within}
-use Rattle.ring.specs.Slots.{slotOf, slotPut}
+use Rattle.ring.specs.Slots.{slotPut}
 use Rattle.ring.proofs.Frames.{slot-length, slot-same, slot-other}
 use Rattle.consumer.specs.declared.RingConsumer.{RingConsumer}
 use Rattle.consumer.specs.declared.Checkpoint.{Checkpoint}
 use Rattle.consumer.specs.Outcome.{Outcome, outcome}
-use Rattle.consumer.specs.Complete.{completeRefusal, usedPut, completedOf, completeOf, tellOf}
+use Rattle.consumer.specs.Complete.{completeRefusal, completeOf, tellOf}
 use Rattle.consumer.proofs.Complete.{complete-refused, complete-done}
 use Rattle.consumer.proofs.Goes.{complete-goes, complete-unheld, completed-is, tell-number, tell-end, tell-ring, tell-counts}
-use Rattle.queue.specs.History.{Item, Done, Poll, Event, slotsOf, items, without}
+use Rattle.queue.specs.History.{Done, Poll, items, without}
 use Rattle.queue.specs.History as said
 use Rattle.queue.specs.Promise.{Has}
-use Rattle.queue.proofs.Listing.{All, all-left, all-right, all-map}
+use Rattle.queue.proofs.Listing.{all-left, all-right, all-map}
 use Rattle.queue.proofs.Model.{Queue, Mark, next}
 use Rattle.packed.specs.Machine.{World, saysCompleted, afterCompleted}
 use Rattle.packed.proofs.Answers.{either-refused}
 use Rattle.packed.proofs.Position.{pos, round, view, pos-add, pos-low, apart}
-use Rattle.packed.proofs.Counts.{Held, Used, ofItems, ofUsed, dones, hit, occS, occ, slots, tot, Pos, hit-same, hit-other, occ-some, slots-none, one-le, one-no, at-clear, Out1, take-out, both-tot, both-occ, both-slots, both-pos, tot-used, occ-used, slots-used, used-pos, dones-append, has-of-occ}
+use Rattle.packed.proofs.Counts.{Held, Used, ofItems, hit, occ, slots, tot, Pos, hit-same, hit-other, occ-some, slots-none, one-le, one-no, at-clear, Out1, take-out, both-tot, both-occ, both-slots, both-pos, tot-used, occ-used, slots-used, used-pos, dones-append, has-of-occ}
 use Rattle.packed.proofs.Spells.{Spells, Returns, spells-cong, spells-split, returns-cong, returns-append}
-use Rattle.packed.proofs.Invariant.{FineItem, fine-pos, O, F, W, CheckOk, Like, Match, Good, good-by, big, small, free-slots, c-size, c-sound, c-lent, like-look}
+use Rattle.packed.proofs.Invariant.{FineItem, fine-pos, O, F, CheckOk, Like, Good, good-by, big, c-size, c-sound, c-lent, like-look}
 
 -- an ID that holds slots, the other way round
 pub occ-slots : (y : ℕ) (hs : List Held) → Pos hs → 0 < occ y hs → 0 < slots y hs

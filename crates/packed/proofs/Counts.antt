@@ -2,7 +2,7 @@
 -- Assumes nothing.
 use Prim.Native.Nat.{ℕ, zero, suc, _+_, _≤_, _<_}
 use mathlib.Core.Path.{_≡_, refl, sym, ap, ap₂, _∙_, subst}
-use mathlib.Core.Logic.{_≢_, _⊎_, inl, inr}
+use mathlib.Core.Logic.{_≢_, inl, inr}
 use mathlib.Core.Bool.{Bool, true, false, cond, not}
 use mathlib.Core.List.{List, [], _∷_, _++_}
 use native.Mathlib.Omega.{arith}
@@ -11,9 +11,10 @@ use native.Mathlib.Decide.{ℕ-discrete}
 use lib.ListN.{length, getD, set, take, length-set}
 use lib.Seq.{getD-set-same, getD-set-other, take-suc, take-set-le}
 use lib.Dec.{T, ltb, eqb, eqb-refl, eqb→eq, ltb→lt, lt→ltb, T-not}
-use Rattle.queue.specs.History.{Chain, Item, Poll, Done, slotsOf, slotsIn, items, ids, without, withoutItem, times}
+use Rattle.queue.specs.History.{Item, Poll, Done, slotsOf, slotsIn, items, without, withoutItem}
 use Rattle.queue.specs.Promise.{Has, Unlike}
-use Rattle.queue.proofs.Listing.{All, on-test}
+use Rattle.queue.specs.Sentences.{All}
+use Rattle.queue.proofs.Listing.{on-test}
 use Rattle.base.proofs.Tests.{by-lt}
 use Rattle.ring.specs.Tables.{upFrom}
 use Rattle.ring.proofs.Laws.{up-none, up-more}

@@ -2,7 +2,7 @@
 -- Assumes nothing.
 use Prim.Native.Nat.{ℕ, _+_, _*_, _≤_, _<_}
 use mathlib.Core.Path.{_≡_, refl, sym, ap, _∙_}
-use mathlib.Core.Bool.{Bool, true, false, _||_}
+use mathlib.Core.Bool.{false, _||_}
 use mathlib.Core.List.{List, [], _∷_}
 use native.Mathlib.Omega.{arith}
 use native.Mathlib.Nat.{le-refl, zero-add}
@@ -10,18 +10,17 @@ use lib.Dec.{ltb}
 use lib.ListN.{length, getD, take, replicate, length-replicate, getD-replicate}
 use lib.Seq.{sets, length-sets}
 use borrow.Author.Tests.{ltb-false}
-use Rattle.base.specs.Answer.{Answer}
+use Rattle.base.specs.Answer.{done}
 use Rattle.base.proofs.Tests.{split, by-lt, neither}
 use Rattle.base.proofs.Runs.{part-same}
-use Rattle.cursor.specs.declared.RingCursor.{RingCursor}
 use Rattle.cursor.specs.Cursor.{fresh}
 use Rattle.desc.specs.declared.Descriptor.{Descriptor}
 use Rattle.event.specs.Event.{ENABLE}
 use Rattle.desc.specs.Flags.{AVAIL, has}
 use Rattle.layout.specs.declared.Layout.{Layout}
-use Rattle.layout.specs.Layout.{layout, badLayout, outside, tableBytes}
+use Rattle.layout.specs.Layout.{layout, badLayout, outside}
 use Rattle.layout.proofs.Laws.{laid, within}
-use Rattle.ring.specs.Tables.{upTo, upFrom}
+use Rattle.ring.specs.Tables.{upTo}
 use Rattle.ring.proofs.Laws.{up-length}
 use Rattle.ring.proofs.Frames.{slot-zero, sets-at}
 use Rattle.producer.specs.declared.RingProducer.{RingProducer}
@@ -29,13 +28,12 @@ use Rattle.producer.specs.Fresh as made
 use Rattle.producer.proofs.Reset as madeLaws
 use Rattle.producer.proofs.Goes as makes
 use Rattle.consumer.specs.declared.RingConsumer.{RingConsumer}
-use Rattle.consumer.specs.declared.Checkpoint.{Checkpoint}
 use Rattle.consumer.specs.Fresh as taken
 use Rattle.consumer.proofs.Reset as takenLaws
 use Rattle.consumer.proofs.Goes as takes
-use Rattle.queue.proofs.Model.{Queue, start}
+use Rattle.queue.proofs.Model.{start}
 use Rattle.packed.specs.Opening.{Opening, openedWorld}
-use Rattle.packed.proofs.Position.{pos, round, view, pos-low, pos-start, round-early}
+use Rattle.packed.proofs.Position.{pos, view, pos-low, pos-start, round-early}
 use Rattle.packed.proofs.Counts.{occS, one, occ-up, one-no}
 use Rattle.packed.proofs.Invariant.{Like}
 
@@ -91,6 +89,13 @@ module _ (size table driver device : ℕ) (ring ids counts held : List ℕ) (o :
 
   held-are : taken.openOf size table driver device ring held .counts ≡ sets held 0 (replicate size 0)
   held-are = ap (λ (x : taken.Open). x .counts) (takenLaws.opening-done size table driver device ring held opens held-long)
+
+  -- the records of the opened world are those that the openings answered
+  pub made-answer : made.openOf size table driver device ring ids counts .answer ≡ done (made.recordValues (openedWorld size table driver device ring ids counts held .prod))
+  made-answer = ap (λ (x : made.Open). x .answer) (madeLaws.opening-done size table driver device ring ids counts opens tables)
+
+  pub taken-answer : taken.openOf size table driver device ring held .answer ≡ done (taken.recordValues (openedWorld size table driver device ring ids counts held .cons))
+  taken-answer = ap (λ (x : taken.Open). x .answer) (takenLaws.opening-done size table driver device ring held opens held-long)
 
   zeros-at : (t : List ℕ) (y : ℕ) → size ≤ length t → y < size → getD (sets t 0 (replicate size 0)) y 0 ≡ 0
   zeros-at t y h b =

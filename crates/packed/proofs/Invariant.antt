@@ -11,18 +11,17 @@ use Rattle.desc.specs.declared.Descriptor.{Descriptor}
 use Rattle.desc.specs.Flags.{AVAIL, USED, has}
 use Rattle.layout.specs.declared.Layout.{Layout}
 use Rattle.layout.specs.Layout.{badLayout, outside}
-use Rattle.layout.proofs.Laws.{laid, within}
-use Rattle.ring.specs.Slots.{slotOf}
+use Rattle.layout.proofs.Laws.{laid}
 use Rattle.producer.specs.Record as made
 use Rattle.producer.specs.Submit.{topOf}
 use Rattle.producer.proofs.Goes as makes
 use Rattle.consumer.specs.Record as takes
 use Rattle.consumer.specs.declared.Checkpoint.{Checkpoint}
 use Rattle.consumer.proofs.Goes as polls
-use Rattle.queue.specs.History.{Chain, Item, Done, Poll, Event, Look, slotsOf, slotsIn, items}
+use Rattle.queue.specs.History.{Item, Event, Look, slotsIn, items}
 use Rattle.queue.specs.History as said
 use Rattle.queue.specs.Promise.{Fine}
-use Rattle.queue.proofs.Listing.{All}
+use Rattle.queue.specs.Sentences.{All}
 use Rattle.queue.proofs.Model.{Queue, Mark, next, looking, Ok}
 use Rattle.packed.specs.Machine.{World}
 use Rattle.packed.proofs.Position.{pos, round, view, pos-low, view-around, round-around}

@@ -1,18 +1,19 @@
 -- A rollback's list against the polls that it names: sums, tests and cleared entries go by how often each ID stands in it.
 -- Assumes nothing.
-use Prim.Native.Nat.{ℕ, zero, suc, _+_, _-_, _≤_, _<_}
+use Prim.Native.Nat.{ℕ, _+_, _≤_, _<_}
 use mathlib.Core.Path.{_≡_, refl, sym, ap, _∙_, subst}
-use mathlib.Core.Bool.{Bool, true, false, cond, _||_}
+use mathlib.Core.Bool.{true, false, cond}
 use mathlib.Core.List.{List, [], _∷_}
 use native.Mathlib.Omega.{arith}
-use lib.Dec.{leb, eqb}
+use lib.Dec.{eqb}
 use lib.ListN.{length, getD}
 use borrow.Author.Tests.{eq-eqb, ne-eqb, lt-leb}
-use Rattle.base.proofs.Tests.{by-lt, by-eq}
+use Rattle.base.proofs.Tests.{by-eq}
 use Rattle.undo.specs.Undo.{named, badIds, totalOf, clearedOf}
 use Rattle.undo.proofs.Laws.{named-none, named-cons, bad-none, bad-cons, total-none, total-cons, cleared-other, cleared-named}
-use Rattle.queue.specs.History.{Chain, Item, Poll, slotsOf, items, ids, times}
-use Rattle.queue.proofs.Listing.{All, one, times-cons, one-same, one-other, less, less-times}
+use Rattle.queue.specs.History.{Poll, slotsOf, items, ids, times}
+use Rattle.queue.specs.Sentences.{All}
+use Rattle.queue.proofs.Listing.{one, times-cons, one-same, one-other, less, less-times}
 use Rattle.packed.proofs.Counts.{Held, ofItem, ofItems, hit, occ, slots, tot, hit-same, slots-none}
 
 pub occ-times : (y : ℕ) (ps : List Poll) → occ y (ofItems (items ps)) ≡ times y (ids ps)

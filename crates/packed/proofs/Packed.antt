@@ -2,21 +2,20 @@
 -- completion meeting its own submission.
 -- Assumes nothing.
 use Prim.Native.Nat.{ℕ}
-use mathlib.Core.Path.{_≡_, sym, subst}
+use mathlib.Core.Path.{_≡_, sym, ap, subst}
 use mathlib.Core.Bool.{false}
 use mathlib.Core.List.{List, []}
 use Rattle.layout.specs.declared.Layout.{Layout}
 use Rattle.layout.specs.Layout.{badLayout}
 use Rattle.consumer.specs.declared.Checkpoint.{Checkpoint}
-use Rattle.consumer.specs.Rollback.{rollbackOf}
-use Rattle.queue.specs.History.{Event, History}
 use Rattle.queue.specs.History as said
 use Rattle.queue.specs.Promise.{Undoes, Asked, Each, Fifo}
-use Rattle.queue.proofs.Model.{Queue, Undo, Grant, AllOk}
-use Rattle.queue.proofs.Machine.{Machine, Matches, honest, historyOf, machine-fifo, machine-ok}
-use Rattle.packed.specs.Calls.{Own, Foreign, Call, Typed, TypedCall, oneOf}
+use Rattle.queue.proofs.Model.{Queue, Undo, Grant}
+use Rattle.queue.specs.Machine.{worldOf, historyOf}
+use Rattle.queue.proofs.Machine.{Matches, honest, matched, machine-fifo}
+use Rattle.packed.specs.Calls.{Own, Call, Typed, TypedCall, oneOf}
 use Rattle.packed.specs.Calls.{submitAvailable, submitAvailableWithNotify, submitOne, submitOneWithNotify, pollUsed, nextId, producerAsked, shouldNotifySince, turnUsed, enableUsedDesc, enableUsedForNext, pollAvailable, submitUsed, submitUsedWithNotify, peekAvailable, pollCheckpoint, rollbackPolls, consumerAsked, turnAvail, enableAvailDesc, enableAvailForNext, own, foreign}
-use Rattle.packed.specs.Machine.{World, producerValues, consumerValues, saysRolled, ownSays, ownLeaves, says, leaves}
+use Rattle.packed.specs.Machine.{World, producerValues, consumerValues, ownSays, ownLeaves, says, leaves, Given, packed}
 use Rattle.packed.specs.Opening.{Opening, openedWorld}
 use Rattle.packed.proofs.Invariant.{Match, Good, like-look}
 use Rattle.packed.proofs.Polls.{poll-good, peek-good}
@@ -27,15 +26,6 @@ use Rattle.packed.proofs.Completes as completes
 use Rattle.packed.proofs.Rollbacks.{mark-good, roll-good}
 use Rattle.packed.proofs.Asides.{producer-asked, consumer-asked, since-good, turn-used-good, arm-used-good, turn-avail-good, arm-avail-good}
 use Rattle.packed.proofs.First.{at, laid-out, first-like}
-
--- a call with arguments of their types
-pub record Given : Type 0 where
-  pub call : Call
-  pub typed : TypedCall call
-
--- the machine: what a call says and leaves is what the contracts' definitions give
-abbrev pub packed : Machine Checkpoint
-packed = record { World = World; Call = Given; say = λ w c. says w (c .call); go = λ w c. leaves w (c .call) }
 
 module _ (l : Layout) (good : badLayout l ≡ false) where
   own-good : (w : World) (q : Queue Checkpoint) (c : Own) → Typed c → Match l w q → Grant Undo q (ownSays w c) → Good l q (ownSays w c) (ownLeaves w c)
@@ -87,6 +77,12 @@ module _ (size table driver device : ℕ) (ring ids counts held : List ℕ) (o :
   pub demand-3 : (cs : List Given) → Each (Asked Undoes) (historyOf packed world cs) → Fifo size (historyOf packed world cs)
   demand-3 cs a = machine-fifo packed world size honest matches cs a
 
-  -- the same as the queue has it, for the theorems of queue/proofs
-  pub allowed : (cs : List Given) → Each (Asked Undoes) (historyOf packed world cs) → AllOk size (historyOf packed world cs)
-  allowed cs a = machine-ok packed world size honest matches cs a
+  -- both records keep the size that was opened: so "outputs of at least ring-size entries" and "on the ring", as a refusal's event has them,
+  -- are of that size
+  pub size-stays :
+      (cs : List Given) → Each (Asked Undoes) (historyOf packed world cs)
+      → (worldOf packed world cs .prod .layout .size ≡ size) × (worldOf packed world cs .cons .layout .size ≡ size)
+  unfolding matches
+  size-stays cs a =
+      let m = matched packed world size honest matches cs a .1 .1 in
+      (ap (λ (x : Layout). x .size) (m .p-layout), ap (λ (x : Layout). x .size) (m .c-layout))

@@ -6,11 +6,11 @@ use mathlib.Core.Logic.{inl, inr}
 use mathlib.Core.Bool.{Bool, true, false, not, _&&_, _||_}
 use mathlib.Core.List.{List, [], _∷_, _++_, append-assoc}
 use native.Mathlib.Omega.{arith}
-use lib.Dec.{ltb, leb, eqb}
+use lib.Dec.{ltb, leb}
 use lib.ListN.{length, getD, take, set, length-set}
 use lib.Seq.{sets}
-use borrow.Author.Tests.{ltb-true, ltb-false, leb-true, leb-false, le-leb, lt-leb, lt-ltb, le-ltb}
-use Rattle.base.specs.Answer.{Answer, done, refused, bit}
+use borrow.Author.Tests.{ltb-true, ltb-false, le-leb, lt-leb}
+use Rattle.base.specs.Answer.{done, refused, bit}
 use Rattle.base.proofs.Tests.{split, neither}
 use Rattle.base.proofs.Runs.{part-same}
 use Rattle.cursor.specs.declared.RingCursor.{RingCursor}
@@ -28,16 +28,17 @@ use Rattle.consumer.specs.Poll.{Taken, taken, headRefusal, headOf, pastOf, poll
 use Rattle.consumer.proofs.Poll.{poll-stopped, peek-done}
 use Rattle.consumer.proofs.Goes.{head-short, head-blocks, past-is, bytes-goes}
 use Rattle.back.proofs.Back.{Stands, poll-accepted, poll-back, head-avail}
-use Rattle.queue.specs.History.{Chain, Item, Poll, Event, slotsOf, items}
+use Rattle.queue.specs.History.{Item, Poll, slotsOf, items}
 use Rattle.queue.specs.History as said
-use Rattle.queue.proofs.Listing.{All, all-right, items-append}
+use Rattle.queue.specs.Sentences.{All}
+use Rattle.queue.proofs.Listing.{all-right, items-append}
 use Rattle.queue.proofs.Model.{Queue, next, tail}
-use Rattle.packed.specs.Machine.{World, saysPolled, saysPeeked, afterTaken, either, no}
-use Rattle.packed.proofs.Answers.{either-done, either-refused, and-true, and-false}
-use Rattle.packed.proofs.Position.{pos, round, view, pos-add}
-use Rattle.packed.proofs.Counts.{Used, ofItems, ofUsed, hit, occ, slots, tot, hit-same, slots-none, one-le, one-low, tot-poll, occ-poll, slots-poll, at-set}
+use Rattle.packed.specs.Machine.{World, saysPolled, saysPeeked, afterTaken, no}
+use Rattle.packed.proofs.Answers.{either-refused, and-true, and-false}
+use Rattle.packed.proofs.Position.{round, view, pos-add}
+use Rattle.packed.proofs.Counts.{Used, ofItems, hit, occ, slots, tot, hit-same, slots-none, one-le, one-low, tot-poll, occ-poll, slots-poll, at-set}
 use Rattle.packed.proofs.Spells.{Spells, elementAt, spells-split}
-use Rattle.packed.proofs.Invariant.{FineItem, O, F, W, Like, Match, Good, good-by, big, small, free-slots, c-size, c-sound, c-lent, c-whole, edge, like-look}
+use Rattle.packed.proofs.Invariant.{FineItem, O, F, W, Like, Good, good-by, free-slots, c-size, c-sound, c-lent, c-whole, edge, like-look}
 
 module _ (l : Layout) (laid-out : badLayout l ≡ false) where
   abbrev size : ℕ

@@ -1,12 +1,11 @@
 -- Unwrapped positions: position p is the cursor after p single steps from (0, false). So a fresh cursor, (0, true), stands at the position
 -- `size`, and the zeroed slots before it are those of a round of their own.
 -- Assumes nothing.
-use Prim.Native.Nat.{ℕ, _+_, _-_, _≤_, _<_}
-use mathlib.Core.Path.{_≡_, sym, _∙_, ap}
+use Prim.Native.Nat.{ℕ, _+_, _<_}
+use mathlib.Core.Path.{_≡_, _∙_, ap}
 use mathlib.Core.Bool.{Bool, false, not}
 use mathlib.Core.List.{List}
 use native.Mathlib.Omega.{arith}
-use native.Mathlib.Nat.{zero-add}
 use Rattle.cursor.specs.declared.RingCursor.{RingCursor}
 use Rattle.cursor.specs.Cursor.{at, fresh, steps}
 use Rattle.cursor.proofs.Laws.{steps-add, steps-below, steps-within, steps-round, heads-apart}

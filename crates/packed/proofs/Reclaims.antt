@@ -1,13 +1,13 @@
 -- poll_used: the completion made first of those not yet returned, or a block because there is none.
 -- Assumes nothing.
-use Prim.Native.Nat.{ℕ, suc, _+_, _-_, _≤_, _<_}
+use Prim.Native.Nat.{ℕ, suc, _+_, _<_}
 use mathlib.Core.Path.{_≡_, refl, sym, ap, ap₂, _∙_, subst}
 use mathlib.Core.Bool.{Bool, true, false, not, Bool·beq}
-use mathlib.Core.List.{List, [], _∷_, _++_}
+use mathlib.Core.List.{List, [], _∷_}
 use native.Mathlib.Omega.{arith}
 use native.Mathlib.Numerals.{add-one}
 use lib.ListN.{length, getD, set, take, length-set}
-use Rattle.base.specs.Answer.{Answer, done, refused}
+use Rattle.base.specs.Answer.{done, refused}
 use Rattle.base.proofs.Tests.{by-lt}
 use Rattle.cursor.specs.declared.RingCursor.{RingCursor}
 use Rattle.cursor.specs.Cursor.{steps}
@@ -20,20 +20,18 @@ use Rattle.layout.specs.Layout.{badLayout}
 use Rattle.ring.specs.Slots.{slotOf}
 use Rattle.producer.specs.declared.RingProducer.{RingProducer}
 use Rattle.producer.specs.Outcome.{Outcome, outcome}
-use Rattle.producer.specs.Submit.{topOf}
-use Rattle.producer.specs.Poll.{pollRefusal, freedOf, polledOf, pollOf}
+use Rattle.producer.specs.Poll.{freedOf, pollOf}
 use Rattle.producer.proofs.Poll.{poll-refused, poll-done}
 use Rattle.producer.proofs.Goes.{poll-blocks, poll-goes, polled-is, freed-is}
 use Rattle.consumer.specs.declared.Checkpoint.{Checkpoint}
-use Rattle.queue.specs.History.{Item, Done, Event, items, withoutItem}
+use Rattle.queue.specs.History.{withoutItem}
 use Rattle.queue.specs.History as said
 use Rattle.queue.proofs.Model.{Queue, next, tail}
 use Rattle.packed.specs.Machine.{World, saysReclaimed, afterMade}
 use Rattle.packed.proofs.Answers.{either-refused}
-use Rattle.packed.proofs.Position.{pos, round, view, pos-add}
+use Rattle.packed.proofs.Position.{round, view, pos-add}
 use Rattle.packed.proofs.Counts.{Used, ofItems, ofUsed, dones, hit, occS, occ, slots, tot, hit-same, slots-none, one-le, one-low, at-clear, OutItem, item-out, occ-push}
-use Rattle.packed.proofs.Spells.{usedAt}
-use Rattle.packed.proofs.Invariant.{O, F, W, Like, Match, Good, good-by, big, free-slots, p-size, p-sound, p-lent, edge, like-look}
+use Rattle.packed.proofs.Invariant.{O, F, W, Like, Good, good-by, p-size, p-sound, p-lent, edge, like-look}
 
 module _ (l : Layout) (laid-out : badLayout l ≡ false) where
   abbrev size : ℕ

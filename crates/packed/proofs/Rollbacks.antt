@@ -1,16 +1,15 @@
 -- rollback_polls and poll_checkpoint: a rollback that undoes every poll since its checkpoint puts their chains back before those that wait.
 -- Assumes nothing.
-use Prim.Native.Nat.{ℕ, suc, _+_, _-_, _≤_, _<_}
+use Prim.Native.Nat.{ℕ, _+_, _≤_, _<_}
 use mathlib.Core.Path.{_≡_, refl, sym, ap, ap₂, _∙_, subst}
-use mathlib.Core.Logic.{inl, inr}
-use mathlib.Core.Bool.{Bool, true, false, not, cond, _&&_, _||_}
+use mathlib.Core.Bool.{Bool, true, false, _&&_, _||_}
 use mathlib.Core.List.{List, [], _∷_, _++_, append-assoc}
 use native.Mathlib.Omega.{arith}
 use native.Mathlib.Nat.{le-refl}
 use lib.Dec.{ltb, leb, eqb}
-use lib.ListN.{length, getD, take, drop}
-use borrow.Author.Tests.{lt-ltb, le-ltb, lt-leb, le-leb, ltb-true, ltb-false}
-use Rattle.base.specs.Answer.{Answer, done, refused, bit}
+use lib.ListN.{length, getD}
+use borrow.Author.Tests.{lt-ltb, lt-leb, le-leb, ltb-true}
+use Rattle.base.specs.Answer.{done, refused, bit}
 use Rattle.base.proofs.Tests.{split, by-lt, neither}
 use Rattle.cursor.specs.declared.RingCursor.{RingCursor}
 use Rattle.cursor.specs.Cursor.{at, steps}
@@ -24,21 +23,22 @@ use Rattle.consumer.specs.declared.RingConsumer.{RingConsumer}
 use Rattle.consumer.specs.declared.Checkpoint.{Checkpoint}
 use Rattle.consumer.specs.Record.{badRecord}
 use Rattle.consumer.specs.Outcome.{Rolled, rolled}
-use Rattle.consumer.specs.Rollback.{checkpointOf, checkpointValues, handedRefusal, staleOf, backOf, rollbackOf}
+use Rattle.consumer.specs.Rollback.{checkpointOf, checkpointValues, staleOf, rollbackOf}
 use Rattle.consumer.proofs.Rollback.{Current, current, rollback-stopped, rollback-refused, rollback-done}
 use Rattle.consumer.proofs.Goes.{handed-bad, handed-goes, not-stale, back-is}
-use Rattle.queue.specs.History.{Item, Poll, Event, slotsOf, items, ids, upto, after, butLast, times}
+use Rattle.queue.specs.History.{Item, Poll, slotsOf, items, ids, upto, after, times}
 use Rattle.queue.specs.History as said
-use Rattle.queue.proofs.Listing.{All, all-append, all-left, all-right, all-of, items-append, upto-after, but-last-upto, drop-after}
-use Rattle.queue.proofs.Model.{Queue, Mark, Member, markOf, next, Undo, UndoAll}
+use Rattle.queue.specs.Sentences.{All}
+use Rattle.queue.proofs.Listing.{all-append, all-left, all-right, all-of, items-append, upto-after, but-last-upto, drop-after}
+use Rattle.queue.proofs.Model.{Queue, markOf, next, Undo}
 use Rattle.packed.specs.Machine.{World, saysRolled, saysMarked, afterRolled}
-use Rattle.packed.proofs.Answers.{either-refused, and-true, and-false}
-use Rattle.packed.proofs.Position.{pos, round, view, pos-add, pos-low}
-use Rattle.packed.proofs.Counts.{Held, Used, ofItems, ofUsed, occS, occ, slots, tot, Pos, one, one-le, one-low, hit-same, occ-some, slots-none, both-tot, both-occ, both-slots, items-tot, items-occ, items-slots}
+use Rattle.packed.proofs.Answers.{either-refused, and-true}
+use Rattle.packed.proofs.Position.{pos, view, pos-add, pos-low}
+use Rattle.packed.proofs.Counts.{Used, ofItems, occ, slots, tot, Pos, one, one-le, one-low, hit-same, slots-none, both-tot, both-occ, both-slots, items-tot, items-occ, items-slots}
 use Rattle.packed.proofs.Spells.{Spells}
 use Rattle.packed.proofs.Named.{occ-times, none-bad, same-total, own-slots, total-polls, cleared-at}
 use Rattle.packed.proofs.Completes.{occ-slots}
-use Rattle.packed.proofs.Invariant.{FineItem, fine-pos, O, F, W, CheckOk, Like, Match, Good, good-by, big, free-slots, c-size, c-sound, like-marks, like-look}
+use Rattle.packed.proofs.Invariant.{FineItem, fine-pos, O, F, CheckOk, Like, Good, good-by, big, c-size, c-sound, like-marks, like-look}
 
 module _ (l : Layout) (laid-out : badLayout l ≡ false) where
   abbrev size : ℕ

@@ -1,18 +1,17 @@
 -- Which slots spell which chains, over a view: a function from unwrapped positions to descriptors.
 -- Assumes nothing.
 use Prim.Native.Nat.{ℕ, _+_, _-_, _≤_, _<_}
-use mathlib.Core.Path.{_≡_, sym, ap, _∙_, subst}
+use mathlib.Core.Path.{_≡_, sym, ap, _∙_}
 use mathlib.Core.Bool.{not}
 use mathlib.Core.List.{List, [], _∷_, _++_}
 use native.Mathlib.Omega.{arith}
 use native.Mathlib.Nat.{add-zero, add-assoc, le-refl}
-use lib.ListN.{length}
 use Rattle.desc.specs.declared.Descriptor.{Descriptor}
 use Rattle.desc.specs.Flags.{AVAIL, USED, has}
 use Rattle.desc.specs.Desc.{descriptor, markAvail, markUsed}
 use Rattle.desc.proofs.Flags.{marked-avail}
 use Rattle.producer.specs.Submit.{elementOf}
-use Rattle.queue.specs.History.{Chain, Item, slotsOf}
+use Rattle.queue.specs.History.{Item, slotsOf}
 use Rattle.packed.proofs.Position.{round}
 use Rattle.packed.proofs.Counts.{Used, ofItems, ofUsed, tot, Pos}
 

@@ -1,22 +1,20 @@
 -- The ID on top of the stack: it is the ring's, it is of no chain that is out, and it has no count.
 -- Assumes nothing.
-use Prim.Native.Nat.{ℕ, suc, _+_, _-_, _≤_, _<_}
-use mathlib.Core.Path.{_≡_, refl, sym, ap, _∙_}
-use mathlib.Core.Logic.{inl, inr}
+use Prim.Native.Nat.{ℕ, suc, _+_, _-_, _<_}
+use mathlib.Core.Path.{_≡_, refl, ap, _∙_}
 use mathlib.Core.Bool.{true, false}
 use mathlib.Core.List.{List, [], _∷_}
 use native.Mathlib.Omega.{arith}
-use lib.ListN.{length, getD, take}
-use Rattle.base.specs.Answer.{Answer, done, refused}
+use lib.ListN.{getD, take}
+use Rattle.base.specs.Answer.{done, refused}
 use Rattle.base.proofs.Tests.{by-lt}
 use Rattle.layout.specs.declared.Layout.{Layout}
 use Rattle.layout.specs.Layout.{badLayout}
 use Rattle.producer.specs.Submit.{topOf}
-use Rattle.producer.specs.Poll.{nextRefusal, nextOf}
+use Rattle.producer.specs.Poll.{nextOf}
 use Rattle.producer.proofs.Poll.{next-refused, next-done}
 use Rattle.producer.proofs.Goes.{next-none, next-goes}
 use Rattle.consumer.specs.declared.Checkpoint.{Checkpoint}
-use Rattle.queue.specs.History.{Item}
 use Rattle.queue.specs.History as said
 use Rattle.queue.specs.Promise.{Unlike}
 use Rattle.queue.proofs.Model.{Queue}

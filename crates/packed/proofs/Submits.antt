@@ -1,14 +1,14 @@
 -- submit_available, submit_one and both with notify: a chain is published behind those that wait, or refused with 1, 3 or 8.
 -- Assumes nothing.
-use Prim.Native.Nat.{ℕ, suc, _+_, _-_, _^_, _≤_, _<_}
+use Prim.Native.Nat.{ℕ, _+_, _-_, _≤_, _<_}
 use mathlib.Core.Path.{_≡_, refl, sym, ap, ap₂, _∙_, subst}
 use mathlib.Core.Logic.{inl, inr}
 use mathlib.Core.Bool.{Bool, true, false, not, cond}
 use mathlib.Core.List.{List, [], _∷_, _++_, append-assoc}
 use native.Mathlib.Omega.{arith}
 use lib.Dec.{eqb}
-use lib.ListN.{length, getD, set, take, length-set, length-append}
-use Rattle.base.specs.Answer.{Answer, done, refused}
+use lib.ListN.{length, set, length-set, length-append}
+use Rattle.base.specs.Answer.{done, refused}
 use Rattle.base.proofs.Tests.{split, by-lt}
 use Rattle.cursor.specs.declared.RingCursor.{RingCursor}
 use Rattle.cursor.specs.Cursor.{steps}
@@ -22,25 +22,25 @@ use Rattle.chain.proofs.Laws.{good}
 use Rattle.ring.specs.Slots.{slotOf}
 use Rattle.producer.specs.declared.RingProducer.{RingProducer}
 use Rattle.producer.specs.Outcome.{Outcome, outcome}
-use Rattle.producer.specs.Submit.{topOf, submitRefusal, elementOf, Written, putChain, takenOf, submitOf}
-use Rattle.producer.specs.Tell.{tellOf}
+use Rattle.producer.specs.Submit.{topOf, submitRefusal, elementOf, Written, putChain, takenOf}
 use Rattle.producer.proofs.Submit.{submit-refused, submit-done}
 use Rattle.producer.proofs.Frame.{chain-past}
 use Rattle.producer.proofs.Touch.{submit-length, submit-keep}
 use Rattle.producer.proofs.Goes.{submit-bad-chain, submit-empty, submit-blocks, submit-goes, submitted-is, taken-is, tell-number, tell-value, tell-end, tell-ring, tell-ids, tell-counts}
 use Rattle.consumer.specs.declared.Checkpoint.{Checkpoint}
 use Rattle.back.proofs.Back.{Stands, written}
-use Rattle.queue.specs.History.{Chain, Item, Event, slotsOf, slotsIn, items}
+use Rattle.queue.specs.History.{Chain, Item, items}
 use Rattle.queue.specs.History as said
-use Rattle.queue.proofs.Listing.{All, all-append}
+use Rattle.queue.specs.Sentences.{All}
+use Rattle.queue.proofs.Listing.{all-append}
 use Rattle.queue.proofs.Model.{Queue, next}
 use Rattle.packed.specs.Calls.{TypedChain}
-use Rattle.packed.specs.Machine.{World, saysSubmitted, submitsOf, tellsOf, afterMade, value}
+use Rattle.packed.specs.Machine.{World, saysSubmitted, submitsOf, tellsOf, afterMade}
 use Rattle.packed.proofs.Answers.{either-refused}
 use Rattle.packed.proofs.Position.{pos, round, view, pos-add, apart}
-use Rattle.packed.proofs.Counts.{Used, ofItems, ofUsed, hit, occS, occ, slots, tot, pos-len, pos-snoc, at-set, tot-item, occ-item, slots-item, items-tot}
+use Rattle.packed.proofs.Counts.{Used, ofItems, slots, tot, pos-len, pos-snoc, at-set, tot-item, occ-item, slots-item, items-tot}
 use Rattle.packed.proofs.Spells.{Spell, Spells, spells-cong, spells-append, returns-cong, spell-flags}
-use Rattle.packed.proofs.Invariant.{FineItem, O, F, W, Like, Match, Good, good-by, big, free-slots, free-in, p-size, p-sound, p-lent, like-look}
+use Rattle.packed.proofs.Invariant.{FineItem, Like, Good, good-by, big, free-slots, free-in, p-size, p-sound, p-lent, like-look}
 use Rattle.packed.proofs.Stack.{popped, top-low, top-count, top-unlike}
 
 module _ (l : Layout) (laid-out : badLayout l ≡ false) where

@@ -24,9 +24,10 @@ use Rattle.consumer.specs.Poll.{Taken, pollOf, peekOf}
 use Rattle.consumer.specs.Complete.{completeOf, tellOf}
 use Rattle.consumer.specs.Rollback.{checkpointOf, checkpointValues, rollbackOf}
 use Rattle.consumer.specs.Notices as availNotices
-use Rattle.queue.specs.History.{Chain, Item, Done, Event}
+use Rattle.queue.specs.History.{Chain, Event}
 use Rattle.queue.specs.History as said
-use Rattle.packed.specs.Calls.{Own, Foreign, Call, ProducerQuestion, ConsumerQuestion, oneOf}
+use Rattle.queue.specs.Machine.{Machine}
+use Rattle.packed.specs.Calls.{Own, Foreign, Call, TypedCall, ProducerQuestion, ConsumerQuestion, oneOf}
 use Rattle.packed.specs.Calls.{producerNumFree, producerNumInflight, producerIsFull, producerLen, producerDescTable, producerAvailCursor, producerUsedCursor, consumerNumFree, consumerNumInflight, consumerIsFull, consumerLen, consumerAvailCursor, consumerUsedCursor}
 use Rattle.packed.specs.Calls.{submitAvailable, submitAvailableWithNotify, submitOne, submitOneWithNotify, pollUsed, nextId, producerAsked, shouldNotifySince, turnUsed, enableUsedDesc, enableUsedForNext, pollAvailable, submitUsed, submitUsedWithNotify, peekAvailable, pollCheckpoint, rollbackPolls, consumerAsked, turnAvail, enableAvailDesc, enableAvailForNext, producers, consumers, own, foreign}
 
@@ -224,3 +225,12 @@ says w (foreign f) = said.looked (said.astray (numberOf (ownSays (astrayIn w f) 
 unfoldable pub leaves : World → Call → World
 leaves w (own c) = ownLeaves w c
 leaves w (foreign f) = w
+
+-- a call with arguments of their types
+pub record Given : Type 0 where
+  pub call : Call
+  pub typed : TypedCall call
+
+-- the machine: what a call says and leaves is what the contracts' definitions give
+abbrev pub packed : Machine Checkpoint
+packed = record { World = World; Call = Given; say = λ w c. says w (c .call); go = λ w c. leaves w (c .call) }

@@ -11,7 +11,8 @@ use lib.Dec.{T}
 use Rattle.queue.specs.History.{Item, Call, Look, Event, History, Poll, items, butLast, pubs, polls, lives}
 use Rattle.queue.specs.History.{submit, poll, complete, reclaim, rollback, nextId, other, nexted, peeked, quiet, refused, astray, submitted, polled, completed, reclaimed, marked, rolled, looked}
 use Rattle.queue.specs.Promise.{Right, Fifo}
-use Rattle.queue.proofs.Listing.{All, items-append, but-last-none}
+use Rattle.queue.specs.Sentences.{All, pollCall, isPoll, pollCalls, Still}
+use Rattle.queue.proofs.Listing.{items-append, but-last-none}
 
 -- over plain lists: what waits is y first
 pub next-is : {A : Type 0} (P L F : List A) (y : A) (l rest : List A) (j : ℕ) → j < length F → P ≡ L ++ (drop j F ++ rest) → P ≡ L ++ (y ∷ l)
@@ -32,50 +33,6 @@ never-empty P L F x l e k =
     omega (arith, ap length k)
 
 module _ {C : Type 0} where
-  -- ---- which events are polls that count
-
-  abbrev pub pollCall : Call C → Bool → Bool
-  pollCall (submit c) good = false
-  pollCall poll good = good
-  pollCall (complete d) good = false
-  pollCall reclaim good = false
-  pollCall (rollback c js) good = false
-  pollCall nextId good = false
-  pollCall other good = false
-
-  abbrev pub pollLook : Look C → Bool
-  pollLook (nexted i) = false
-  pollLook (peeked b) = false
-  pollLook quiet = false
-  pollLook (refused c good n) = pollCall c good
-  pollLook (astray n) = false
-
-  -- "Calls refused for bad records or buffers aren't counted": a poll counts if it gave a chain, or was refused though all that it was
-  -- handed was good
-  abbrev pub isPoll : Event C → Bool
-  isPoll (submitted x) = false
-  isPoll (polled x) = true
-  isPoll (completed d) = false
-  isPoll (reclaimed d) = false
-  isPoll (marked c) = false
-  isPoll (rolled c js) = false
-  isPoll (looked l) = pollLook l
-
-  -- the polls of a stretch
-  abbrev pub pollCalls : History C → ℕ
-  pollCalls [] = 0
-  pollCalls (e ∷ g) = cond (isPoll e) (suc (pollCalls g)) (pollCalls g)
-
-  -- no poll was rolled back: no rollback, or one of nothing
-  abbrev pub Still : Event C → Type 0
-  Still (submitted x) = Unit
-  Still (polled x) = Unit
-  Still (completed d) = Unit
-  Still (reclaimed d) = Unit
-  Still (marked c) = Unit
-  Still (rolled c js) = js ≡ []
-  Still (looked l) = Unit
-
   module _ (size : ℕ) (h : History C) (front later : List Item) (x : Item) (waits : pubs h ≡ items (lives h) ++ (front ++ (x ∷ later))) where
     -- after g, with the first j of those ahead polled
     abbrev Left : History C → ℕ → Type 0

@@ -10,13 +10,12 @@ use lib.Dec.{T}
 use Rattle.queue.specs.History.{Item, Done, Event, History, slotsIn, items, pubs, polls, comps, reclaims, lives, held, out, finished}
 use Rattle.queue.specs.History.{poll, reclaim, rollback, nexted, refused, submitted, polled, completed, reclaimed, marked, rolled, looked}
 use Rattle.queue.specs.Promise.{Undoes, UndoesAll, Asked, Each, Fifo}
+use Rattle.queue.specs.Sentences.{All, isPoll, Still, isReclaim, Own, sources, Literally}
 use Rattle.queue.proofs.Model.{Mark, next, model, Undo, UndoAll, AllOk}
-use Rattle.queue.proofs.Listing.{All}
 use Rattle.queue.proofs.Trace.{fifo}
-use Rattle.queue.proofs.Ahead.{isPoll, Still, ahead}
-use Rattle.queue.proofs.Returned.{isReclaim, returned}
-use Rattle.queue.proofs.Reader.{Own}
-use Rattle.queue.proofs.Literal.{sources, Literally, literal}
+use Rattle.queue.proofs.Ahead.{ahead}
+use Rattle.queue.proofs.Returned.{returned}
+use Rattle.queue.proofs.Literal.{literal}
 
 -- a chain of one element and one of two, on a ring of four slots
 abbrev a : Item

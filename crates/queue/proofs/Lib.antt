@@ -8,4 +8,5 @@ pub mod Kept
 pub mod Undone
 pub mod Reader
 pub mod Literal
+pub mod Handed
 pub mod Example

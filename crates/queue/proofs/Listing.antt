@@ -11,6 +11,7 @@ use lib.ListN.{length, take, drop, length-append, take-append-drop}
 use lib.Seq.{take-at, drop-at, take-append-add, take-length}
 use lib.Dec.{T, eqb, leb, le→leb, eqb→eq, eqb-refl}
 use Rattle.queue.specs.History.{Poll, Item, items, ids, upto, after, butLast, times}
+use Rattle.queue.specs.Sentences.{All}
 use Rattle.queue.proofs.Model.{Member}
 
 -- by cases on a test, with what it says
@@ -29,10 +30,6 @@ pub eqb-no : (x y : ℕ) → x ≢ y → eqb x y ≡ false
 eqb-no x y n = on-test (λ b. (T b → x ≡ y) → b ≡ false) (eqb x y) (λ t f. absurd (n (f tt))) (λ t f. refl) (λ t. eqb→eq x y t)
 
 -- ---- all of a list
-
-abbrev pub All : {A : Type 0} → (A → Type 0) → List A → Type 0
-All P [] = Unit
-All P (x ∷ xs) = P x × All P xs
 
 pub all-append : {A : Type 0} (P : A → Type 0) (xs ys : List A) → All P xs → All P ys → All P (xs ++ ys)
 all-append P [] ys h k = k

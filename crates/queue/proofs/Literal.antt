@@ -2,7 +2,7 @@
 -- Assumes nothing.
 use mathlib.Core.Path.{_≡_, refl, sym, ap, _∙_}
 use mathlib.Core.Logic.{_≢_}
-use mathlib.Core.Bool.{Bool, true, false, cond, _||_}
+use mathlib.Core.Bool.{Bool, true, false, _||_}
 use Prim.Native.Nat.{ℕ, zero, suc, _-_, _≤_, _<_}
 use native.Mathlib.Omega.{arith}
 use native.Mathlib.Decide.{ℕ-discrete, decLe}
@@ -13,64 +13,12 @@ use lib.Dec.{eqb}
 use Rattle.queue.specs.History.{Item, Call, Event, History, Poll, items, butLast, times, pubs, polls, lives}
 use Rattle.queue.specs.History.{submit, poll, complete, reclaim, rollback, nextId, other, nexted, peeked, quiet, refused, astray, submitted, polled, completed, reclaimed, marked, rolled, looked}
 use Rattle.queue.specs.Promise.{Unlike, Each}
+use Rattle.queue.specs.Sentences.{At, hasb, latest, sources, Stands, LiterallyNo, Literally}
 use Rattle.queue.proofs.Model.{model, Ok, AllOk}
 use Rattle.queue.proofs.Listing.{eqb-yes, eqb-no, length-items, one, one-same, one-other, times-cons, times-append}
 use Rattle.queue.proofs.Trace.{link}
 use Rattle.queue.proofs.Kept.{idsOf, tally-append, times-unlike, Kept, kept}
-use Rattle.queue.proofs.Reader.{At, at-seam}
-
--- ---- which publication a poll is of: the latest one that got its ID. The first publication of a history is number 0.
-
-abbrev pub hasb : ℕ → List Item → Bool
-hasb x [] = false
-hasb x (y ∷ ys) = eqb (y .id) x || hasb x ys
-
-abbrev pub latest : ℕ → List Item → ℕ
-latest x [] = 0
-latest x (y ∷ ys) = cond (hasb x ys) (suc (latest x ys)) 0
-
-module _ {C : Type 0} where
-  -- the publications that the standing polls are of
-  unfoldable pub sources : History C → List ℕ
-  sources [] = []
-  sources (submitted x ∷ h) = sources h
-  sources (polled x ∷ h) = sources h ++ (latest (x .id) (pubs h) ∷ [])
-  sources (completed d ∷ h) = sources h
-  sources (reclaimed d ∷ h) = sources h
-  sources (marked c ∷ h) = sources h
-  sources (rolled c js ∷ h) = butLast (length js) (sources h)
-  sources (looked l ∷ h) = sources h
-
-  -- publication j has a poll that was not rolled back
-  abbrev pub Stands : History C → ℕ → Type 0
-  Stands h j = 0 < times j (sources h)
-
-  -- a poll that was refused though all that it was handed was good
-  abbrev pub LiterallyNo : History C → Call C → Bool → ℕ → Type 0
-  LiterallyNo h (submit c) good n = Unit
-  LiterallyNo h poll true n = (n ≡ 3) × ((i : ℕ) → i < length (pubs h) → Stands h i)
-  LiterallyNo h poll false n = Unit
-  LiterallyNo h (complete d) good n = Unit
-  LiterallyNo h reclaim good n = Unit
-  LiterallyNo h (rollback c js) good n = Unit
-  LiterallyNo h nextId good n = Unit
-  LiterallyNo h other good n = Unit
-
-  -- "A poll returns the oldest published chain whose polls, if any, were all rolled back": its publication gave this very chain, no poll
-  -- of it stands, and of each older one a poll does. "It blocks only when none waits": of each publication a poll stands.
-  abbrev pub Literally : History C → Event C → Type 0
-  Literally h (submitted x) = Unit
-  Literally h (polled x) =
-      At (pubs h) (latest (x .id) (pubs h)) x × ((Stands h (latest (x .id) (pubs h)) → ⊥) × ((i : ℕ) → i < latest (x .id) (pubs h) → Stands h i))
-  Literally h (completed d) = Unit
-  Literally h (reclaimed d) = Unit
-  Literally h (marked c) = Unit
-  Literally h (rolled c js) = Unit
-  Literally h (looked (nexted i)) = Unit
-  Literally h (looked (peeked b)) = Unit
-  Literally h (looked quiet) = Unit
-  Literally h (looked (refused c good n)) = LiterallyNo h c good n
-  Literally h (looked (astray n)) = Unit
+use Rattle.queue.proofs.Reader.{at-seam}
 
 -- ---- the first n numbers
 

@@ -2,20 +2,12 @@
 -- Assumes nothing.
 use Prim.Native.Nat.{ℕ}
 use mathlib.Core.List.{List, [], _∷_}
-use Rattle.queue.specs.History.{Look, Event, History}
-use Rattle.queue.specs.History.{nexted, peeked, quiet, refused, astray, submitted, polled, completed, reclaimed, marked, rolled, looked}
+use Rattle.queue.specs.History.{Event, History}
+use Rattle.queue.specs.History.{submitted, polled, completed, reclaimed, marked, rolled, looked}
 use Rattle.queue.specs.Promise.{Undoes, UndoesAll, Asked, Each, Fifo}
+use Rattle.queue.specs.Machine.{Machine, worldOf, historyOf}
 use Rattle.queue.proofs.Model.{Queue, start, next, model, Undo, UndoAll, Ok, AllOk, Grant}
 use Rattle.queue.proofs.Trace.{fifo, undo-of, undo-all-of}
-
-pub record Machine (C : Type 0) : Type 1 where
-  pub World : Type 0
-  -- the ring's own calls, with all their arguments
-  pub Call : Type 0
-  -- the call with its answer
-  pub say : World → Call → Event C
-  -- the world after it
-  pub go : World → Call → World
 
 -- what is assumed of an accepted rollback, by the history and by the queue
 pub record Terms (C : Type 0) : Type 1 where
@@ -43,15 +35,6 @@ module _ {C : Type 0} where
   grant terms size h o (looked l) a = a
 
   module _ (M : Machine C) (w : M .World) where
-    -- the world after these calls, THE LATEST FIRST, and their history
-    unfoldable pub worldOf : List (M .Call) → M .World
-    worldOf [] = w
-    worldOf (c ∷ cs) = M .go (worldOf cs) c
-
-    unfoldable pub historyOf : List (M .Call) → History C
-    historyOf [] = []
-    historyOf (c ∷ cs) = M .say (worldOf cs) c ∷ historyOf cs
-
     -- what a ring owes: a likeness to the queue that every call keeps, and an answer that the queue allows
     pub record Matches (size : ℕ) (terms : Terms C) : Type 1 where
       pub Like : M .World → Queue C → Type 0
@@ -60,20 +43,16 @@ module _ {C : Type 0} where
           → Ok size q (M .say v c) × Like (M .go v c) (next q (M .say v c))
 
     module _ (size : ℕ) (terms : Terms C) (m : Matches size terms) where
-      pub matched : (cs : List (M .Call)) → Each (Asked (terms .Premise)) (historyOf cs)
-          → AllOk size (historyOf cs) × m .Like (worldOf cs) (model (historyOf cs))
+      pub matched : (cs : List (M .Call)) → Each (Asked (terms .Premise)) (historyOf M w cs)
+          → AllOk size (historyOf M w cs) × m .Like (worldOf M w cs) (model (historyOf M w cs))
       unfolding worldOf historyOf model
       matched [] a = (tt, m .first)
       matched (c ∷ cs) a =
-          let h : History C = historyOf cs in
-          let ih : AllOk size (historyOf cs) × m .Like (worldOf cs) (model (historyOf cs)) = matched cs (a .0) in
-          let s = m .step (worldOf cs) (model (historyOf cs)) c (ih .1) (grant terms size h (ih .0) (M .say (worldOf cs) c) (a .1)) in
+          let h : History C = historyOf M w cs in
+          let ih : AllOk size (historyOf M w cs) × m .Like (worldOf M w cs) (model (historyOf M w cs)) = matched cs (a .0) in
+          let s = m .step (worldOf M w cs) (model (historyOf M w cs)) c (ih .1) (grant terms size h (ih .0) (M .say (worldOf M w cs) c) (a .1)) in
           ((ih .0, s .0), s .1)
 
       -- DEMAND 3 of this machine: "completions meet their own submissions", whatever calls it is given, if what is asked of them holds
-      pub machine-fifo : (cs : List (M .Call)) → Each (Asked (terms .Premise)) (historyOf cs) → Fifo size (historyOf cs)
-      machine-fifo cs a = fifo size (historyOf cs) (matched cs a .0)
-
-      -- and whatever follows of a history that the queue allows
-      pub machine-ok : (cs : List (M .Call)) → Each (Asked (terms .Premise)) (historyOf cs) → AllOk size (historyOf cs)
-      machine-ok cs a = matched cs a .0
+      pub machine-fifo : (cs : List (M .Call)) → Each (Asked (terms .Premise)) (historyOf M w cs) → Fifo size (historyOf M w cs)
+      machine-fifo cs a = fifo size (historyOf M w cs) (matched cs a .0)

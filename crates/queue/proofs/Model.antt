@@ -4,9 +4,9 @@ use Prim.Native.Nat.{ℕ, suc, _+_, _-_, _≤_, _<_}
 use mathlib.Core.Path.{_≡_}
 use mathlib.Core.Logic.{_⊎_}
 use mathlib.Core.List.{List, [], _∷_, _++_}
-use mathlib.Core.Bool.{Bool, true, false}
+use mathlib.Core.Bool.{true, false}
 use lib.ListN.{length, drop}
-use Rattle.queue.specs.History.{Chain, Item, Done, Call, Look, Event, History, Poll, slotsOf, slotsIn, items, ids, upto, after, butLast, without, withoutItem, times}
+use Rattle.queue.specs.History.{Item, Done, Call, Look, Event, History, Poll, slotsOf, slotsIn, items, ids, upto, after, butLast, without, withoutItem, times}
 use Rattle.queue.specs.History.{submit, poll, complete, reclaim, rollback, nextId, other, nexted, peeked, quiet, refused, astray, submitted, polled, completed, reclaimed, marked, rolled, looked}
 use Rattle.queue.specs.Promise.{Has, Unlike, Fine, AskedLook}
 

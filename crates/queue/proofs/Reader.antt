@@ -9,21 +9,16 @@ use native.Mathlib.Nat.{le-of-suc-le-suc}
 use native.Mathlib.Omega.{arith}
 use native.Mathlib.Decide.{ℕ-discrete}
 use mathlib.Core.List.{List, [], _∷_, _++_}
-use lib.ListN.{length, drop}
+use lib.ListN.{length, drop, length-append}
 use lib.Seq.{drop-at}
 use Rattle.queue.specs.History.{Item, Done, History, Poll, slotsOf, slotsIn, items, ids, withoutItem, times, pubs, comps, reclaims, lives, held, out, finished, waiting}
 use Rattle.queue.specs.History.{submitted, polled, completed, reclaimed, marked, rolled, looked}
 use Rattle.queue.specs.Promise.{Unlike}
+use Rattle.queue.specs.Sentences.{All, At, Own, OwnBefore}
 use Rattle.queue.proofs.Model.{Member, model, AllOk}
-use Rattle.queue.proofs.Listing.{All, all-append, Over, Rising, ids-append, length-ids, one, one-same, one-other, one-low, times-cons, member-left}
+use Rattle.queue.proofs.Listing.{all-append, Over, Rising, ids-append, length-ids, one, one-same, one-other, one-low, times-cons, member-left}
 use Rattle.queue.proofs.Trace.{settled, Link, link, waiting-is}
 use Rattle.queue.proofs.Kept.{dids, nos, idsOf, dids-append, nos-append, unlike-of, slots-less, these, front-of, Served, served, Kept, kept}
-
--- the j-th of a list, the first being number 0, is this one
-abbrev pub At : {A : Type 0} → List A → ℕ → A → Type 0
-At [] j x = ⊥
-At (y ∷ ys) zero x = y ≡ x
-At (y ∷ ys) (suc j) x = At ys j x
 
 pub at-low : {A : Type 0} (l : List A) (j : ℕ) (x : A) → At l j x → j < length l
 at-low [] j x a = absurd a
@@ -54,7 +49,7 @@ at-member [] x m = absurd m
 at-member (y ∷ l) x (inl e) = (0, e)
 at-member {A} (y ∷ l) x (inr m) = let r : (j : ℕ) × At l j x = at-member l x m in (suc (r .0), r .1)
 
-at-all : {A : Type 0} (P : A → Type 0) (l : List A) (j : ℕ) (x : A) → At l j x → All P l → P x
+pub at-all : {A : Type 0} (P : A → Type 0) (l : List A) (j : ℕ) (x : A) → At l j x → All P l → P x
 at-all P [] j x a h = absurd a
 at-all P (y ∷ l) zero x a h = subst P a (h .0)
 at-all P (y ∷ l) (suc j) x a h = at-all P l j x a (h .1)
@@ -142,19 +137,6 @@ slotted-length [] a = omega arith
 slotted-length (i ∷ l) a = omega (arith, a .0, slotted-length l (a .1))
 
 module _ {C : Type 0} where
-  -- the j-th completion that poll_used returned is of the p-th submission
-  pub record Own (h : History C) (j p : ℕ) : Type 0 where
-    pub done : Done
-    pub poll : Poll
-    -- it is the j-th that the consumer made
-    pub came-back : At (reclaims h) j done
-    pub made : At (comps h) j done
-    -- it completed this poll, which stands and gave the very chain that submission p published, under the ID that it got
-    pub completed : At (finished h) j poll
-    pub stands : At (lives h) p poll
-    pub published : At (pubs h) p (poll .item)
-    pub own-id : poll .item .id ≡ done .id
-
   -- completed and not yet returned, held, waiting, as the history says
   abbrev pub outs : History C → List Item
   outs h = items (drop (length (reclaims h)) (finished h)) ++ (items (held h) ++ waiting h)
@@ -249,6 +231,24 @@ module _ {C : Type 0} where
 
     pub outs-once : (y : ℕ) → times y (idsOf (out h)) ≤ 1
     outs-once y = rw (l .out-is) (k .apart y)
+
+  -- each return is of a submission that was published, polled and completed before
+  pub own-before : (size : ℕ) (h : History C) (d : Done) → AllOk size (reclaimed d ∷ h) → (p : ℕ) × OwnBefore h d p
+  unfolding comps reclaims finished lives pubs
+  own-before size h d o =
+      let r = own-completion size (reclaimed d ∷ h) o (length (reclaims h)) (omega (arith, length-append (reclaims h) (d ∷ []))) in
+      let w : Own (reclaimed d ∷ h) (length (reclaims h)) (r .0) = r .2 in
+      let e : w .done ≡ d = at-same (reclaims h ++ (d ∷ [])) (length (reclaims h)) (w .done) d (w .came-back) (at-seam (reclaims h) d []) in (
+        r .0,
+        record {
+          poll = w .poll;
+          made = subst (At (comps h) (length (reclaims h))) e (w .made);
+          completed = w .completed;
+          stands = w .stands;
+          published = w .published;
+          own-id = w .own-id ∙ ap (λ (x : Done). x .id) e;
+        },
+      )
 
   -- "an ID given is the ID of no chain whose completion poll_used has not yet returned": of none that is completed and not returned,
   -- of none that is held, and of none that waits

@@ -11,43 +11,10 @@ use lib.Dec.{T}
 use Rattle.queue.specs.History.{Done, Call, Look, Event, History, comps, reclaims}
 use Rattle.queue.specs.History.{submit, poll, complete, reclaim, rollback, nextId, other, nexted, peeked, quiet, refused, astray, submitted, polled, completed, reclaimed, marked, rolled, looked}
 use Rattle.queue.specs.Promise.{Right, Fifo}
+use Rattle.queue.specs.Sentences.{reclaimCall, isReclaim, reclaimCalls}
 use Rattle.queue.proofs.Ahead.{next-is, never-empty}
 
 module _ {C : Type 0} where
-  -- ---- which events are polls of the producer that count
-
-  abbrev pub reclaimCall : Call C → Bool → Bool
-  reclaimCall (submit c) good = false
-  reclaimCall poll good = false
-  reclaimCall (complete d) good = false
-  reclaimCall reclaim good = good
-  reclaimCall (rollback c js) good = false
-  reclaimCall nextId good = false
-  reclaimCall other good = false
-
-  abbrev pub reclaimLook : Look C → Bool
-  reclaimLook (nexted i) = false
-  reclaimLook (peeked b) = false
-  reclaimLook quiet = false
-  reclaimLook (refused c good n) = reclaimCall c good
-  reclaimLook (astray n) = false
-
-  -- "Calls refused for bad records or buffers aren't counted": a poll_used counts if it returned a completion, or was refused though all
-  -- that it was handed was good
-  abbrev pub isReclaim : Event C → Bool
-  isReclaim (submitted x) = false
-  isReclaim (polled x) = false
-  isReclaim (completed d) = false
-  isReclaim (reclaimed d) = true
-  isReclaim (marked c) = false
-  isReclaim (rolled c js) = false
-  isReclaim (looked l) = reclaimLook l
-
-  -- the producer's polls of a stretch
-  abbrev pub reclaimCalls : History C → ℕ
-  reclaimCalls [] = 0
-  reclaimCalls (e ∷ g) = cond (isReclaim e) (suc (reclaimCalls g)) (reclaimCalls g)
-
   module _ (size : ℕ) (h : History C) (front later : List Done) (x : Done) (waits : comps h ≡ reclaims h ++ (front ++ (x ∷ later))) where
     -- after g, with the first j of those ahead returned
     abbrev Left : History C → ℕ → Type 0

@@ -12,8 +12,9 @@ use lib.Seq.{drop-at}
 use Rattle.queue.specs.History.{Item, Done, Call, Look, Event, History, Poll, items, ids, upto, after, butLast, without, times, pubs, polls, comps, reclaims, lives, held, out, promised, waiting}
 use Rattle.queue.specs.History.{submit, poll, complete, reclaim, rollback, nextId, other, nexted, peeked, quiet, refused, astray, submitted, polled, completed, reclaimed, marked, rolled, looked}
 use Rattle.queue.specs.Promise.{Undoes, UndoesAll, RightBadNo, RightNo, RightLook, Right, Fifo}
+use Rattle.queue.specs.Sentences.{All}
 use Rattle.queue.proofs.Model.{Mark, Queue, start, tail, Member, markOf, looking, next, model, Undo, UndoAll, OkBadNo, OkNo, OkLook, Ok, AllOk}
-use Rattle.queue.proofs.Listing.{All, all-append, all-map, all-of, Under, Rising, under-mono, rising-snoc, rising-take, items-append, length-items, upto-under, after-under, but-last-rest, but-last-append, all-but-last, named-fit, member-left, member-last, member-snoc, nil-of}
+use Rattle.queue.proofs.Listing.{all-append, all-map, all-of, Under, Rising, under-mono, rising-snoc, rising-take, items-append, length-items, upto-under, after-under, but-last-rest, but-last-append, all-but-last, named-fit, member-left, member-last, member-snoc, nil-of}
 
 -- of a mark with as many completions as now, no poll before the last completion came after it
 abbrev pub MarkOk : {C : Type 0} → ℕ → ℕ → Mark C → Type 0

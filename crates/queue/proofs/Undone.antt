@@ -2,7 +2,7 @@
 -- Assumes nothing.
 use mathlib.Core.Path.{_≡_, sym, ap, _∙_}
 use Prim.Native.Nat.{ℕ, _≤_}
-use mathlib.Core.List.{List, [], _∷_, _++_, append-assoc}
+use mathlib.Core.List.{List, _∷_, _++_, append-assoc}
 use lib.ListN.{length, drop}
 use lib.Seq.{drop-at}
 use Rattle.queue.specs.History.{Item, History, Poll, items, ids, upto, after, times, pubs, polls, lives, held, waiting}

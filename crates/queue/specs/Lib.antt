@@ -1,2 +1,4 @@
 pub mod History
 pub mod Promise
+pub mod Sentences
+pub mod Machine

@@ -3,7 +3,7 @@ use Prim.Native.Nat.{ℕ, _+_, _≤_, _<_}
 use mathlib.Core.Path.{_≡_}
 use mathlib.Core.Logic.{_≢_, _⊎_}
 use mathlib.Core.List.{List, [], _∷_, _++_}
-use mathlib.Core.Bool.{Bool, true, false}
+use mathlib.Core.Bool.{true, false}
 use lib.ListN.{length}
 use Rattle.queue.specs.History.{Chain, Item, Done, Call, Look, Event, History, Poll, slotsOf, slotsIn, items, ids, upto, after, times, pubs, polls, comps, reclaims, lives, held, out, promised, waiting}
 use Rattle.queue.specs.History.{submit, poll, complete, reclaim, rollback, nextId, other, nexted, peeked, quiet, refused, astray, submitted, polled, completed, reclaimed, marked, rolled, looked}

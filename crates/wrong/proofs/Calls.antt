@@ -25,11 +25,11 @@ use Rattle.consumer.specs.Complete.{completeRefusal, completedOf, completeOf}
 use Rattle.consumer.specs.Fresh as freshly
 use Rattle.queue.specs.History.{Chain, Item, Done, Event, History}
 use Rattle.queue.specs.Promise.{Undoes, Asked, Each, Right, Fifo}
-use Rattle.queue.proofs.Machine.{worldOf, historyOf}
+use Rattle.queue.specs.Machine.{worldOf, historyOf}
 use Rattle.packed.specs.Calls.{TypedChain, submitAvailable, pollUsed, pollAvailable, submitUsed, own}
 use Rattle.packed.specs.Machine.{World}
 use Rattle.packed.specs.Opening.{Opening, openedWorld}
-use Rattle.packed.proofs.Packed.{Given}
+use Rattle.packed.specs.Machine.{Given}
 use Rattle.wrong.proofs.Ring.{Ring, real, machineOf, Demand, real-meets, ownSaysBy, ownLeavesBy, saysBy, leavesBy}
 
 -- ---- the ring: two slots, 40 bytes, all zero, and tables of two entries

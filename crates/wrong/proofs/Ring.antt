@@ -13,12 +13,13 @@ use Rattle.consumer.specs.Complete.{completeOf, tellOf}
 use Rattle.queue.specs.History.{Chain, Event, History}
 use Rattle.queue.specs.History as said
 use Rattle.queue.specs.Promise.{Undoes, Asked, Each, Fifo}
-use Rattle.queue.proofs.Machine.{Machine, worldOf, historyOf}
+use Rattle.queue.specs.Machine.{Machine, worldOf, historyOf}
 use Rattle.packed.specs.Calls.{Own, Call, oneOf}
 use Rattle.packed.specs.Calls.{submitAvailable, submitAvailableWithNotify, submitOne, submitOneWithNotify, pollUsed, nextId, producerAsked, shouldNotifySince, turnUsed, enableUsedDesc, enableUsedForNext, pollAvailable, submitUsed, submitUsedWithNotify, peekAvailable, pollCheckpoint, rollbackPolls, consumerAsked, turnAvail, enableAvailDesc, enableAvailForNext, own, foreign}
 use Rattle.packed.specs.Machine.{World, submitsOf, saysSubmitted, saysReclaimed, saysPolled, saysCompleted, afterMade, afterTaken, afterCompleted, ownSays, ownLeaves, astrayIn, asked, numberOf, says, leaves}
 use Rattle.packed.specs.Opening.{Opening, openedWorld}
-use Rattle.packed.proofs.Packed.{Given, packed, demand-3}
+use Rattle.packed.specs.Machine.{Given, packed}
+use Rattle.packed.proofs.Packed.{demand-3}
 
 -- what a submission, a poll_used, a poll and a completion leave, in the world in which they are called
 pub record Ring : Type 0 where
