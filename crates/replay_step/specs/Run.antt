@@ -1,7 +1,7 @@
 -- How a run goes on. Assumes nothing.
 use Prim.Native.Nat.{ℕ, _<_, _≤_}
-use Rattle.replay.specs.declared.Turn.{Turn}
-use Rattle.replay.specs.declared.Turn.the-variants.{On, Ended}
+use Rattle.replay_step.specs.declared.Turn.{Turn}
+use Rattle.replay_step.specs.declared.Turn.the-variants.{On, Ended}
 
 -- from the place `at` of an input of `end` bytes: further on, and not past the end; or ended
 abbrev pub Onward : ℕ → ℕ → Turn → Type 0

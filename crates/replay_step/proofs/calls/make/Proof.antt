@@ -2,8 +2,8 @@
 -- Assumes nothing.
 use borrow.Author.Needs.{needs}
 use mathlib.Core.Path.{_∙_}
-use Rattle.replay.proofs.calls.make.Statement.{statement}
-use Rattle.replay.proofs.calls.make.Tie as tie
+use Rattle.replay_step.proofs.calls.make.Statement.{statement}
+use Rattle.replay_step.proofs.calls.make.Tie as tie
 
 -- The four calls that write, from the last to the first.
 abbrev consumer : tie.After-opened → tie.After-call2

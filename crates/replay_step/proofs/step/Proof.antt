@@ -1,8 +1,8 @@
 -- `replay::step` is safe, and a run goes on within its input: `onward` tests it. Every slice keeps its length, since both calls that it is lent to keep it.
 -- Assumes nothing.
 use borrow.Author.Needs.{needs}
-use Rattle.replay.proofs.step.Statement.{statement}
-use Rattle.replay.proofs.step.Tie as tie
+use Rattle.replay_step.proofs.step.Statement.{statement}
+use Rattle.replay_step.proofs.step.Tie as tie
 
 -- The two calls that write, seen from the end.
 abbrev line : tie.After-onward → tie.After-write

@@ -1,4 +1,4 @@
--- `replay::drive::run_all` is safe and ends. The loop keeps every slice's length, and the run within the input; the measure is what is left of the input.
+-- `replay::run_all` is safe and ends. The loop keeps every slice's length, and the run within the input; the measure is what is left of the input.
 -- The three places that proofs name: a step, seen from where the run ended and from where it went on, and the loop's head, seen from a step.
 -- Assumes nothing.
 use borrow.Author.Needs.{needs}
@@ -6,12 +6,12 @@ use Prim.Native.Nat.{ℕ, _-_, _<_, _≤_}
 use mathlib.Core.Path.{_≡_, refl, subst, _∙_}
 use native.Mathlib.Omega.{arith}
 use lib.ListN.{length}
-use Rattle.replay.specs.declared.Run.{Run}
-use Rattle.replay.specs.declared.Turn.{Turn}
-use Rattle.replay.specs.declared.Turn.the-variants.{On}
-use Rattle.replay.specs.Run.{Onward}
-use Rattle.replay.proofs.drive.run_all.Statement.{statement}
-use Rattle.replay.proofs.drive.run_all.Tie as tie
+use Rattle.replay_step.specs.declared.Run.{Run}
+use Rattle.replay_step.specs.declared.Turn.{Turn}
+use Rattle.replay_step.specs.declared.Turn.the-variants.{On}
+use Rattle.replay_step.specs.Run.{Onward}
+use Rattle.replay.proofs.run_all.Statement.{statement}
+use Rattle.replay.proofs.run_all.Tie as tie
 
 abbrev Inv-loop : tie.InvT-loop
 Inv-loop input out₀ region₀ ids₀ taken₀ held₀ addrs₀ lens₀ registers₀ run₀ out region ids taken held addrs lens registers run =

@@ -2,8 +2,8 @@
 -- Assumes nothing.
 use borrow.Author.Needs.{needs}
 use mathlib.Core.Path.{_∙_}
-use Rattle.replay.proofs.line.write.Statement.{statement}
-use Rattle.replay.proofs.line.write.Tie as tie
+use Rattle.replay_step.proofs.line.write.Statement.{statement}
+use Rattle.replay_step.proofs.line.write.Tie as tie
 
 looked-requires : tie.Need-looked-requires
 looked-requires c κs = search needs
