@@ -40,7 +40,7 @@ pub record World : Type 0 where
   pub held : List ℕ
   pub ring : List ℕ
 
--- ---- the answers of the producer's and the consumer's questions
+-- ---- the answers of the producer's and the consumer's questions: as their contracts have them; the promise says nothing of the values
 
 abbrev pub producerValues : ProducerQuestion → RingProducer → List ℕ
 producerValues producerNumFree p = p .free ∷ []
@@ -217,7 +217,8 @@ numberOf (said.marked c) = 0
 numberOf (said.rolled c js) = 0
 numberOf (said.looked l) = numberOfLook l
 
--- "after which the end gets its own last again": the world is as it was
+-- "after which the end gets its own last again": the world is as it was. What the call was given it has left as it was, too
+-- (packed/proofs/Astray.antt, `astray-leaves`).
 unfoldable pub says : World → Call → Event Checkpoint
 says w (own c) = ownSays w c
 says w (foreign f) = said.looked (said.astray (numberOf (ownSays (astrayIn w f) (asked f))))

@@ -14,7 +14,7 @@ module _ (size table driver device : ℕ) (ring ids counts held : List ℕ) wher
   pub record Opening : Type 0 where
     pub producer : made.openOf size table driver device ring ids counts .answer .number ≡ 0
     pub consumer : taken.openOf size table driver device ring held .answer .number ≡ 0
-    -- "over one zeroed ring": the three areas are zero; what else is in the bytes is of no matter
+    -- "over one zeroed ring": the three areas are zero; what else is in the bytes is of no matter (nor, for demand 3, are the event areas)
     pub table-zero : (k : ℕ) → k < size * 16 → getD ring (table + k) 0 ≡ 0
     pub driver-zero : (k : ℕ) → k < 4 → getD ring (driver + k) 0 ≡ 0
     pub device-zero : (k : ℕ) → k < 4 → getD ring (device + k) 0 ≡ 0

@@ -33,18 +33,17 @@ pub data Call (C : Type 0) : Type 0 where
   -- every other call
   other : Call C
 
--- an answer that changes nothing
+-- an answer that changes nothing of what a history speaks of
 pub data Look (C : Type 0) : Type 0 where
   -- next_id answered this ID, peek_available this
   nexted : ℕ → Look C
   peeked : Bool → Look C
   -- any other question, and a notification turned or armed
   quiet : Look C
-  -- a call by an end given its own last record, tables and bytes, refused with this number; whether what was handed in with the call
-  -- besides them was good: slices of equal length with a readable count within it, poll outputs of at least ring-size entries, a
-  -- cursor or checkpoint on the ring
+  -- a call by an end given its own last again, refused with this number; whether all else that was handed in with the call was good (a
+  -- ring says what that is: slices of equal length, outputs long enough, a checkpoint that can be one)
   refused : Call C → Bool → ℕ → Look C
-  -- a call given a foreign record, tables or bytes, answered with this number (0 is success)
+  -- a call given what is not the end's own, answered with this number (0 is success)
   astray : ℕ → Look C
 
 -- one call with its answer
@@ -161,7 +160,8 @@ module _ {C : Type 0} where
   reclaims (rolled c js ∷ h) = reclaims h
   reclaims (looked l ∷ h) = reclaims h
 
-  -- the polls that stand: those that gave a chain and were not rolled back. A rollback undoes as many as its list names, the latest.
+  -- the polls that stand: those that gave a chain and were not rolled back. A rollback undoes as many as its list names, the latest: where it
+  -- meets the premise these are the polls since its checkpoint (queue/proofs/Undone.antt).
   unfoldable pub lives : History C → List Poll
   lives [] = []
   lives (submitted x ∷ h) = lives h

@@ -1,4 +1,9 @@
--- Demand 3: "completions meet their own submissions", for every history of two ends, said over calls and answers alone.
+-- Demand 3: "completions meet their own submissions", for every history of two ends, said over calls and answers alone. In the customer's
+-- words: "Take two fresh ends over one zeroed ring, any mix of their calls, no reset, no other writer, each end given back its own last record
+-- and tables, and each rollback using a checkpoint that its end took and undoing every poll since, with no completion between. Then a poll
+-- returns the oldest published chain whose polls, if any, were all rolled back, element for element, and blocks only when none waits. With k
+-- ahead it arrives at poll k+1 if nothing is rolled back meanwhile. Completions reach the producer the same way: in order, once each, with
+-- their own ID and length. Calls refused for bad records or buffers aren't counted." Other quotations below are what the product adds to it.
 use Prim.Native.Nat.{ℕ, _+_, _≤_, _<_}
 use mathlib.Core.Path.{_≡_}
 use mathlib.Core.Logic.{_≢_, _⊎_}
@@ -121,6 +126,7 @@ module _ {C : Type 0} where
     -- "Completions reach the producer the same way: in order, once each, with their own ID and length."
     Right h (reclaimed d) = (later : List Done) × (comps h ≡ reclaims h ++ (d ∷ later))
     Right h (marked c) = Unit
+    -- the premise again, which has content where more was assumed
     Right h (rolled c js) = Undoes h c js
     Right h (looked l) = RightLook h l
 
