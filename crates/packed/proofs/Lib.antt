@@ -15,3 +15,4 @@ pub mod First
 pub mod Packed
 pub mod Astray
 pub mod Promises
+pub mod Tied

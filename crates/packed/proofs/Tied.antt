@@ -1,0 +1,216 @@
+-- The machine's step is the function's contract: whatever result and exit the generated contract of a call allows, the machine says what is
+-- read off that result and leaves that exit. So a contract that changes breaks this file, or goes through it into demand 3.
+-- Assumes nothing.
+use mathlib.Core.Path.{_≡_, refl, sym, ap}
+use mathlib.Core.Bool.{true}
+use mathlib.Core.List.{List}
+use Prim.Native.Nat.{ℕ}
+use lib.Dec.{ltb}
+use denote.Ref.{now}
+use Rattle.event.specs.Event.{ENABLE, DISABLE}
+use Rattle.notify.specs.Notify as notified
+use Rattle.ring.specs.Asked.{countAnswer, boolAnswer, cursorAnswer, tableAnswer}
+use Rattle.producer.specs.declared.RingProducer.{RingProducer}
+use Rattle.producer.specs.Outcome as made
+use Rattle.producer.specs.Submit as submits
+use Rattle.producer.specs.Tell as tells
+use Rattle.producer.specs.Poll as reclaims
+use Rattle.producer.specs.Notices as usedNotices
+use Rattle.consumer.specs.declared.RingConsumer.{RingConsumer}
+use Rattle.consumer.specs.declared.Checkpoint.{Checkpoint}
+use Rattle.consumer.specs.Outcome as takenOutcome
+use Rattle.consumer.specs.Poll as polls
+use Rattle.consumer.specs.Complete as completes
+use Rattle.consumer.specs.Rollback as rollbacks
+use Rattle.consumer.specs.Notices as availNotices
+use Rattle.queue.specs.History.{Event}
+use Rattle.packed.specs.Calls.{Own, oneOf}
+use Rattle.packed.specs.Calls.{producerNumFree, producerNumInflight, producerIsFull, producerLen, producerDescTable, producerAvailCursor, producerUsedCursor, consumerNumFree, consumerNumInflight, consumerIsFull, consumerLen, consumerAvailCursor, consumerUsedCursor}
+use Rattle.packed.specs.Calls.{submitAvailable, submitAvailableWithNotify, submitOne, submitOneWithNotify, pollUsed, nextId, producerAsked, shouldNotifySince, turnUsed, enableUsedDesc, enableUsedForNext, pollAvailable, submitUsed, submitUsedWithNotify, peekAvailable, pollCheckpoint, rollbackPolls, consumerAsked, turnAvail, enableAvailDesc, enableAvailForNext}
+use Rattle.packed.specs.Machine.{World, saysSubmitted, saysReclaimed, saysNext, saysQuiet, saysPolled, saysCompleted, saysPeeked, saysMarked, saysRolled, afterMade, afterUsedTurn, afterTaken, afterCompleted, afterRolled, afterAvailTurn, ownSays, ownLeaves}
+use Rattle.producer.proofs.RingProducer.submit_one.Reads as made-submit-one
+use Rattle.producer.proofs.RingProducer.submit_available.Reads as made-submit-available
+use Rattle.producer.proofs.RingProducer.submit_available_with_notify.Reads as made-submit-available-with-notify
+use Rattle.producer.proofs.RingProducer.submit_one_with_notify.Reads as made-submit-one-with-notify
+use Rattle.producer.proofs.RingProducer.poll_used.Reads as made-poll-used
+use Rattle.producer.proofs.RingProducer.next_id.Reads as made-next-id
+use Rattle.producer.proofs.RingProducer.num_free.Reads as made-num-free
+use Rattle.producer.proofs.RingProducer.num_inflight.Reads as made-num-inflight
+use Rattle.producer.proofs.RingProducer.is_full.Reads as made-is-full
+use Rattle.producer.proofs.RingProducer.len.Reads as made-len
+use Rattle.producer.proofs.RingProducer.desc_table.Reads as made-desc-table
+use Rattle.producer.proofs.RingProducer.avail_cursor.Reads as made-avail-cursor
+use Rattle.producer.proofs.RingProducer.used_cursor.Reads as made-used-cursor
+use Rattle.producer.proofs.RingProducer.should_notify_since.Reads as made-should-notify-since
+use Rattle.producer.proofs.RingProducer.disable_used_notifications.Reads as made-disable-used-notifications
+use Rattle.producer.proofs.RingProducer.enable_used_notifications.Reads as made-enable-used-notifications
+use Rattle.producer.proofs.RingProducer.enable_used_notifications_desc.Reads as made-enable-used-notifications-desc
+use Rattle.producer.proofs.RingProducer.enable_used_notifications_for_next.Reads as made-enable-used-notifications-for-next
+use Rattle.consumer.proofs.RingConsumer.poll_available.Reads as taken-poll-available
+use Rattle.consumer.proofs.RingConsumer.submit_used.Reads as taken-submit-used
+use Rattle.consumer.proofs.RingConsumer.submit_used_with_notify.Reads as taken-submit-used-with-notify
+use Rattle.consumer.proofs.RingConsumer.peek_available.Reads as taken-peek-available
+use Rattle.consumer.proofs.RingConsumer.poll_checkpoint.Reads as taken-poll-checkpoint
+use Rattle.consumer.proofs.RingConsumer.rollback_polls.Reads as taken-rollback-polls
+use Rattle.consumer.proofs.RingConsumer.num_free.Reads as taken-num-free
+use Rattle.consumer.proofs.RingConsumer.num_inflight.Reads as taken-num-inflight
+use Rattle.consumer.proofs.RingConsumer.is_full.Reads as taken-is-full
+use Rattle.consumer.proofs.RingConsumer.len.Reads as taken-len
+use Rattle.consumer.proofs.RingConsumer.avail_cursor.Reads as taken-avail-cursor
+use Rattle.consumer.proofs.RingConsumer.used_cursor.Reads as taken-used-cursor
+use Rattle.consumer.proofs.RingConsumer.disable_avail_notifications.Reads as taken-disable-avail-notifications
+use Rattle.consumer.proofs.RingConsumer.enable_avail_notifications.Reads as taken-enable-avail-notifications
+use Rattle.consumer.proofs.RingConsumer.enable_avail_notifications_desc.Reads as taken-enable-avail-notifications-desc
+use Rattle.consumer.proofs.RingConsumer.enable_avail_notifications_for_next.Reads as taken-enable-avail-notifications-for-next
+
+-- of every result and exit that a contract allows
+abbrev Ties : {K D R S : Type 0} → (K → D → R → S → Type 0) → (D → R → S → Type 0) → Type 0
+Ties {K} {D} {R} {S} P Q = (κ : K) (a : D) (r : R) (s : S) → P κ a r s → Q a r s
+
+-- in this world this call says this and leaves that
+abbrev Step : World → Own → Event Checkpoint → World → Type 0
+Step w c e v = (ownSays w c ≡ e) × (ownLeaves w c ≡ v)
+
+-- a world in which the producer was given these, and one in which the consumer was
+abbrev withProducer : World → RingProducer → List ℕ → List ℕ → List ℕ → World
+withProducer w p r i k = record { prod = p; ids = i; counts = k; cons = w .cons; held = w .held; ring = r }
+
+abbrev withConsumer : World → RingConsumer → List ℕ → List ℕ → World
+withConsumer w p r k = record { prod = w .prod; ids = w .ids; counts = w .counts; cons = p; held = k; ring = r }
+
+module _ (w : World) where
+  pub made-submit-one-tied : Ties made-submit-one.Post (λ a r s. Step (withProducer w (a .0) (now (a .1 .0)) (now (a .1 .1 .0)) (now (a .1 .1 .1 .0))) (submitOne (a .1 .1 .1 .1 .0) (a .1 .1 .1 .1 .1 .0) (a .1 .1 .1 .1 .1 .1 .0)) (saysSubmitted (oneOf (a .1 .1 .1 .1 .0) (a .1 .1 .1 .1 .1 .0) (a .1 .1 .1 .1 .1 .1 .0)) (submits.answerOf r)) (withProducer w (submits.recordOf r) (now (s .1 .0)) (now (a .1 .1 .0)) (now (s .1 .1 .1 .0))))
+  unfolding ownSays ownLeaves
+  made-submit-one-tied κ a r s p = (ap (λ (o : made.Outcome). saysSubmitted (oneOf (a .1 .1 .1 .1 .0) (a .1 .1 .1 .1 .1 .0) (a .1 .1 .1 .1 .1 .1 .0)) (o .answer)) (sym p), ap (afterMade (withProducer w (a .0) (now (a .1 .0)) (now (a .1 .1 .0)) (now (a .1 .1 .1 .0)))) (sym p))
+
+  pub made-submit-available-tied : Ties made-submit-available.Post (λ a r s. Step (withProducer w (a .0) (now (a .1 .0)) (now (a .1 .1 .0)) (now (a .1 .1 .1 .0))) (submitAvailable (record { addrs = (now (a .1 .1 .1 .1 .0)); lens = (now (a .1 .1 .1 .1 .1 .0)); readable = (a .1 .1 .1 .1 .1 .1 .0) })) (saysSubmitted (record { addrs = (now (a .1 .1 .1 .1 .0)); lens = (now (a .1 .1 .1 .1 .1 .0)); readable = (a .1 .1 .1 .1 .1 .1 .0) }) (submits.answerOf r)) (withProducer w (submits.recordOf r) (now (s .1 .0)) (now (a .1 .1 .0)) (now (s .1 .1 .1 .0))))
+  unfolding ownSays ownLeaves
+  made-submit-available-tied κ a r s p = (ap (λ (o : made.Outcome). saysSubmitted (record { addrs = (now (a .1 .1 .1 .1 .0)); lens = (now (a .1 .1 .1 .1 .1 .0)); readable = (a .1 .1 .1 .1 .1 .1 .0) }) (o .answer)) (sym p), ap (afterMade (withProducer w (a .0) (now (a .1 .0)) (now (a .1 .1 .0)) (now (a .1 .1 .1 .0)))) (sym p))
+
+  pub made-submit-available-with-notify-tied : Ties made-submit-available-with-notify.Post (λ a r s. Step (withProducer w (a .0) (now (a .1 .0)) (now (a .1 .1 .0)) (now (a .1 .1 .1 .0))) (submitAvailableWithNotify (record { addrs = (now (a .1 .1 .1 .1 .0)); lens = (now (a .1 .1 .1 .1 .1 .0)); readable = (a .1 .1 .1 .1 .1 .1 .0) })) (saysSubmitted (record { addrs = (now (a .1 .1 .1 .1 .0)); lens = (now (a .1 .1 .1 .1 .1 .0)); readable = (a .1 .1 .1 .1 .1 .1 .0) }) (tells.toldAnswer r)) (withProducer w (tells.toldRecord r) (now (s .1 .0)) (now (a .1 .1 .0)) (now (s .1 .1 .1 .0))))
+  unfolding ownSays ownLeaves
+  made-submit-available-with-notify-tied κ a r s p = (ap (λ (o : made.Outcome). saysSubmitted (record { addrs = (now (a .1 .1 .1 .1 .0)); lens = (now (a .1 .1 .1 .1 .1 .0)); readable = (a .1 .1 .1 .1 .1 .1 .0) }) (o .answer)) (sym p), ap (afterMade (withProducer w (a .0) (now (a .1 .0)) (now (a .1 .1 .0)) (now (a .1 .1 .1 .0)))) (sym p))
+
+  pub made-submit-one-with-notify-tied : Ties made-submit-one-with-notify.Post (λ a r s. Step (withProducer w (a .0) (now (a .1 .0)) (now (a .1 .1 .0)) (now (a .1 .1 .1 .0))) (submitOneWithNotify (a .1 .1 .1 .1 .0) (a .1 .1 .1 .1 .1 .0) (a .1 .1 .1 .1 .1 .1 .0)) (saysSubmitted (oneOf (a .1 .1 .1 .1 .0) (a .1 .1 .1 .1 .1 .0) (a .1 .1 .1 .1 .1 .1 .0)) (tells.toldAnswer r)) (withProducer w (tells.toldRecord r) (now (s .1 .0)) (now (a .1 .1 .0)) (now (s .1 .1 .1 .0))))
+  unfolding ownSays ownLeaves
+  made-submit-one-with-notify-tied κ a r s p = (ap (λ (o : made.Outcome). saysSubmitted (oneOf (a .1 .1 .1 .1 .0) (a .1 .1 .1 .1 .1 .0) (a .1 .1 .1 .1 .1 .1 .0)) (o .answer)) (sym p), ap (afterMade (withProducer w (a .0) (now (a .1 .0)) (now (a .1 .1 .0)) (now (a .1 .1 .1 .0)))) (sym p))
+
+  pub made-poll-used-tied : Ties made-poll-used.Post (λ a r s. Step (withProducer w (a .0) (now (a .1 .0)) (now (a .1 .1 .0)) (now (a .1 .1 .1 .0))) pollUsed (saysReclaimed (reclaims.usedAnswer r)) (withProducer w (reclaims.usedRecord r) (now (a .1 .0)) (now (s .1 .1 .0)) (now (s .1 .1 .1 .0))))
+  unfolding ownSays ownLeaves
+  made-poll-used-tied κ a r s p = (ap (λ (o : made.Outcome). saysReclaimed (o .answer)) (sym p), ap (afterMade (withProducer w (a .0) (now (a .1 .0)) (now (a .1 .1 .0)) (now (a .1 .1 .1 .0)))) (sym p))
+
+  pub made-next-id-tied : Ties made-next-id.Post (λ a r s. Step (withProducer w (a .0) (w .ring) (now (a .1 .0)) (now (a .1 .1 .0))) nextId (saysNext (reclaims.nextAnswer r)) (withProducer w (a .0) (w .ring) (now (a .1 .0)) (now (a .1 .1 .0))))
+  unfolding ownSays ownLeaves
+  made-next-id-tied κ a r s p = (ap saysNext (sym p), refl)
+
+  pub made-num-free-tied : Ties made-num-free.Post (λ a r s. Step (withProducer w (a .0) (w .ring) (w .ids) (w .counts)) (producerAsked producerNumFree) (saysQuiet true (countAnswer r)) (withProducer w (a .0) (w .ring) (w .ids) (w .counts)))
+  unfolding ownSays ownLeaves
+  made-num-free-tied κ a r s p = (ap (saysQuiet true) (sym p), refl)
+
+  pub made-num-inflight-tied : Ties made-num-inflight.Post (λ a r s. Step (withProducer w (a .0) (w .ring) (w .ids) (w .counts)) (producerAsked producerNumInflight) (saysQuiet true (countAnswer r)) (withProducer w (a .0) (w .ring) (w .ids) (w .counts)))
+  unfolding ownSays ownLeaves
+  made-num-inflight-tied κ a r s p = (ap (saysQuiet true) (sym p), refl)
+
+  pub made-is-full-tied : Ties made-is-full.Post (λ a r s. Step (withProducer w (a .0) (w .ring) (w .ids) (w .counts)) (producerAsked producerIsFull) (saysQuiet true (boolAnswer r)) (withProducer w (a .0) (w .ring) (w .ids) (w .counts)))
+  unfolding ownSays ownLeaves
+  made-is-full-tied κ a r s p = (ap (saysQuiet true) (sym p), refl)
+
+  pub made-len-tied : Ties made-len.Post (λ a r s. Step (withProducer w (a .0) (w .ring) (w .ids) (w .counts)) (producerAsked producerLen) (saysQuiet true (countAnswer r)) (withProducer w (a .0) (w .ring) (w .ids) (w .counts)))
+  unfolding ownSays ownLeaves
+  made-len-tied κ a r s p = (ap (saysQuiet true) (sym p), refl)
+
+  pub made-desc-table-tied : Ties made-desc-table.Post (λ a r s. Step (withProducer w (a .0) (w .ring) (w .ids) (w .counts)) (producerAsked producerDescTable) (saysQuiet true (tableAnswer r)) (withProducer w (a .0) (w .ring) (w .ids) (w .counts)))
+  unfolding ownSays ownLeaves
+  made-desc-table-tied κ a r s p = (ap (saysQuiet true) (sym p), refl)
+
+  pub made-avail-cursor-tied : Ties made-avail-cursor.Post (λ a r s. Step (withProducer w (a .0) (w .ring) (w .ids) (w .counts)) (producerAsked producerAvailCursor) (saysQuiet true (cursorAnswer r)) (withProducer w (a .0) (w .ring) (w .ids) (w .counts)))
+  unfolding ownSays ownLeaves
+  made-avail-cursor-tied κ a r s p = (ap (saysQuiet true) (sym p), refl)
+
+  pub made-used-cursor-tied : Ties made-used-cursor.Post (λ a r s. Step (withProducer w (a .0) (w .ring) (w .ids) (w .counts)) (producerAsked producerUsedCursor) (saysQuiet true (cursorAnswer r)) (withProducer w (a .0) (w .ring) (w .ids) (w .counts)))
+  unfolding ownSays ownLeaves
+  made-used-cursor-tied κ a r s p = (ap (saysQuiet true) (sym p), refl)
+
+  pub made-should-notify-since-tied : Ties made-should-notify-since.Post (λ a r s. Step (withProducer w (a .0) (now (a .1 .0)) (w .ids) (w .counts)) (shouldNotifySince (a .1 .1 .0)) (saysQuiet (ltb ((a .1 .1 .0) .head) (a .0 .layout .size)) (notified.answerOf r)) (withProducer w (a .0) (now (a .1 .0)) (w .ids) (w .counts)))
+  unfolding ownSays ownLeaves
+  made-should-notify-since-tied κ a r s p = (ap (saysQuiet (ltb ((a .1 .1 .0) .head) (a .0 .layout .size))) (sym p), refl)
+
+  pub made-disable-used-notifications-tied : Ties made-disable-used-notifications.Post (λ a r s. Step (withProducer w (a .0) (now (a .1 .0)) (w .ids) (w .counts)) (turnUsed DISABLE) (saysQuiet true (usedNotices.turnAnswer r)) (withProducer w (usedNotices.turnRecord r) (now (s .1 .0)) (w .ids) (w .counts)))
+  unfolding ownSays ownLeaves
+  made-disable-used-notifications-tied κ a r s p = (ap (λ (o : made.Changed). saysQuiet true (o .answer)) (sym p), ap (afterUsedTurn (withProducer w (a .0) (now (a .1 .0)) (w .ids) (w .counts))) (sym p))
+
+  pub made-enable-used-notifications-tied : Ties made-enable-used-notifications.Post (λ a r s. Step (withProducer w (a .0) (now (a .1 .0)) (w .ids) (w .counts)) (turnUsed ENABLE) (saysQuiet true (usedNotices.turnAnswer r)) (withProducer w (usedNotices.turnRecord r) (now (s .1 .0)) (w .ids) (w .counts)))
+  unfolding ownSays ownLeaves
+  made-enable-used-notifications-tied κ a r s p = (ap (λ (o : made.Changed). saysQuiet true (o .answer)) (sym p), ap (afterUsedTurn (withProducer w (a .0) (now (a .1 .0)) (w .ids) (w .counts))) (sym p))
+
+  pub made-enable-used-notifications-desc-tied : Ties made-enable-used-notifications-desc.Post (λ a r s. Step (withProducer w (a .0) (now (a .1 .0)) (w .ids) (w .counts)) (enableUsedDesc (a .1 .1 .0) (a .1 .1 .1 .0)) (saysQuiet true (usedNotices.turnAnswer r)) (withProducer w (usedNotices.turnRecord r) (now (s .1 .0)) (w .ids) (w .counts)))
+  unfolding ownSays ownLeaves
+  made-enable-used-notifications-desc-tied κ a r s p = (ap (λ (o : made.Changed). saysQuiet true (o .answer)) (sym p), ap (afterUsedTurn (withProducer w (a .0) (now (a .1 .0)) (w .ids) (w .counts))) (sym p))
+
+  pub made-enable-used-notifications-for-next-tied : Ties made-enable-used-notifications-for-next.Post (λ a r s. Step (withProducer w (a .0) (now (a .1 .0)) (w .ids) (w .counts)) enableUsedForNext (saysQuiet true (usedNotices.turnAnswer r)) (withProducer w (usedNotices.turnRecord r) (now (s .1 .0)) (w .ids) (w .counts)))
+  unfolding ownSays ownLeaves
+  made-enable-used-notifications-for-next-tied κ a r s p = (ap (λ (o : made.Changed). saysQuiet true (o .answer)) (sym p), ap (afterUsedTurn (withProducer w (a .0) (now (a .1 .0)) (w .ids) (w .counts))) (sym p))
+
+  pub taken-poll-available-tied : Ties taken-poll-available.Post (λ a r s. Step (withConsumer w (a .0) (now (a .1 .0)) (now (a .1 .1 .0))) (pollAvailable (now (a .1 .1 .1 .0)) (now (a .1 .1 .1 .1 .0))) (saysPolled (a .0 .layout .size) (now (a .1 .1 .1 .0)) (now (a .1 .1 .1 .1 .0)) (polls.taken (polls.polledAnswer r) (polls.polledRecord r) (now (s .1 .1 .0)) (now (s .1 .1 .1 .0)) (now (s .1 .1 .1 .1 .0)))) (withConsumer w (polls.polledRecord r) (now (a .1 .0)) (now (s .1 .1 .0))))
+  unfolding ownSays ownLeaves
+  taken-poll-available-tied κ a r s p = (ap (saysPolled (a .0 .layout .size) (now (a .1 .1 .1 .0)) (now (a .1 .1 .1 .1 .0))) (sym p), ap (afterTaken (withConsumer w (a .0) (now (a .1 .0)) (now (a .1 .1 .0)))) (sym p))
+
+  pub taken-submit-used-tied : Ties taken-submit-used.Post (λ a r s. Step (withConsumer w (a .0) (now (a .1 .0)) (now (a .1 .1 .0))) (submitUsed (a .1 .1 .1 .0) (a .1 .1 .1 .1 .0)) (saysCompleted (a .1 .1 .1 .0) (a .1 .1 .1 .1 .0) (takenOutcome.answerOf r)) (withConsumer w (takenOutcome.recordOf r) (now (s .1 .0)) (now (s .1 .1 .0))))
+  unfolding ownSays ownLeaves
+  taken-submit-used-tied κ a r s p = (ap (λ (o : takenOutcome.Outcome). saysCompleted (a .1 .1 .1 .0) (a .1 .1 .1 .1 .0) (o .answer)) (sym p), ap (afterCompleted (withConsumer w (a .0) (now (a .1 .0)) (now (a .1 .1 .0)))) (sym p))
+
+  pub taken-submit-used-with-notify-tied : Ties taken-submit-used-with-notify.Post (λ a r s. Step (withConsumer w (a .0) (now (a .1 .0)) (now (a .1 .1 .0))) (submitUsedWithNotify (a .1 .1 .1 .0) (a .1 .1 .1 .1 .0)) (saysCompleted (a .1 .1 .1 .0) (a .1 .1 .1 .1 .0) (completes.toldAnswer r)) (withConsumer w (completes.toldRecord r) (now (s .1 .0)) (now (s .1 .1 .0))))
+  unfolding ownSays ownLeaves
+  taken-submit-used-with-notify-tied κ a r s p = (ap (λ (o : takenOutcome.Outcome). saysCompleted (a .1 .1 .1 .0) (a .1 .1 .1 .1 .0) (o .answer)) (sym p), ap (afterCompleted (withConsumer w (a .0) (now (a .1 .0)) (now (a .1 .1 .0)))) (sym p))
+
+  pub taken-peek-available-tied : Ties taken-peek-available.Post (λ a r s. Step (withConsumer w (a .0) (now (a .1 .0)) (w .held)) peekAvailable (saysPeeked (boolAnswer r)) (withConsumer w (a .0) (now (a .1 .0)) (w .held)))
+  unfolding ownSays ownLeaves
+  taken-peek-available-tied κ a r s p = (ap saysPeeked (sym p), refl)
+
+  pub taken-poll-checkpoint-tied : Ties taken-poll-checkpoint.Post (λ a r s. Step (withConsumer w (a .0) (w .ring) (w .held)) pollCheckpoint (saysMarked (rollbacks.checkpointAnswer r)) (withConsumer w (a .0) (w .ring) (w .held)))
+  unfolding ownSays ownLeaves
+  taken-poll-checkpoint-tied κ a r s p = (ap saysMarked (sym p), refl)
+
+  pub taken-rollback-polls-tied : Ties taken-rollback-polls.Post (λ a r s. Step (withConsumer w (a .0) (w .ring) (now (a .1 .0))) (rollbackPolls (a .1 .1 .0) (now (a .1 .1 .1 .0))) (saysRolled (a .0 .layout .size) (a .1 .1 .0) (now (a .1 .1 .1 .0)) (takenOutcome.answerOf r)) (withConsumer w (takenOutcome.recordOf r) (w .ring) (now (s .1 .0))))
+  unfolding ownSays ownLeaves
+  taken-rollback-polls-tied κ a r s p = (ap (λ (o : takenOutcome.Rolled). saysRolled (a .0 .layout .size) (a .1 .1 .0) (now (a .1 .1 .1 .0)) (o .answer)) (sym p), ap (afterRolled (withConsumer w (a .0) (w .ring) (now (a .1 .0)))) (sym p))
+
+  pub taken-num-free-tied : Ties taken-num-free.Post (λ a r s. Step (withConsumer w (a .0) (w .ring) (w .held)) (consumerAsked consumerNumFree) (saysQuiet true (countAnswer r)) (withConsumer w (a .0) (w .ring) (w .held)))
+  unfolding ownSays ownLeaves
+  taken-num-free-tied κ a r s p = (ap (saysQuiet true) (sym p), refl)
+
+  pub taken-num-inflight-tied : Ties taken-num-inflight.Post (λ a r s. Step (withConsumer w (a .0) (w .ring) (w .held)) (consumerAsked consumerNumInflight) (saysQuiet true (countAnswer r)) (withConsumer w (a .0) (w .ring) (w .held)))
+  unfolding ownSays ownLeaves
+  taken-num-inflight-tied κ a r s p = (ap (saysQuiet true) (sym p), refl)
+
+  pub taken-is-full-tied : Ties taken-is-full.Post (λ a r s. Step (withConsumer w (a .0) (w .ring) (w .held)) (consumerAsked consumerIsFull) (saysQuiet true (boolAnswer r)) (withConsumer w (a .0) (w .ring) (w .held)))
+  unfolding ownSays ownLeaves
+  taken-is-full-tied κ a r s p = (ap (saysQuiet true) (sym p), refl)
+
+  pub taken-len-tied : Ties taken-len.Post (λ a r s. Step (withConsumer w (a .0) (w .ring) (w .held)) (consumerAsked consumerLen) (saysQuiet true (countAnswer r)) (withConsumer w (a .0) (w .ring) (w .held)))
+  unfolding ownSays ownLeaves
+  taken-len-tied κ a r s p = (ap (saysQuiet true) (sym p), refl)
+
+  pub taken-avail-cursor-tied : Ties taken-avail-cursor.Post (λ a r s. Step (withConsumer w (a .0) (w .ring) (w .held)) (consumerAsked consumerAvailCursor) (saysQuiet true (cursorAnswer r)) (withConsumer w (a .0) (w .ring) (w .held)))
+  unfolding ownSays ownLeaves
+  taken-avail-cursor-tied κ a r s p = (ap (saysQuiet true) (sym p), refl)
+
+  pub taken-used-cursor-tied : Ties taken-used-cursor.Post (λ a r s. Step (withConsumer w (a .0) (w .ring) (w .held)) (consumerAsked consumerUsedCursor) (saysQuiet true (cursorAnswer r)) (withConsumer w (a .0) (w .ring) (w .held)))
+  unfolding ownSays ownLeaves
+  taken-used-cursor-tied κ a r s p = (ap (saysQuiet true) (sym p), refl)
+
+  pub taken-disable-avail-notifications-tied : Ties taken-disable-avail-notifications.Post (λ a r s. Step (withConsumer w (a .0) (now (a .1 .0)) (w .held)) (turnAvail DISABLE) (saysQuiet true (takenOutcome.answerOf r)) (withConsumer w (takenOutcome.recordOf r) (now (s .1 .0)) (w .held)))
+  unfolding ownSays ownLeaves
+  taken-disable-avail-notifications-tied κ a r s p = (ap (λ (o : takenOutcome.Changed). saysQuiet true (o .answer)) (sym p), ap (afterAvailTurn (withConsumer w (a .0) (now (a .1 .0)) (w .held))) (sym p))
+
+  pub taken-enable-avail-notifications-tied : Ties taken-enable-avail-notifications.Post (λ a r s. Step (withConsumer w (a .0) (now (a .1 .0)) (w .held)) (turnAvail ENABLE) (saysQuiet true (takenOutcome.answerOf r)) (withConsumer w (takenOutcome.recordOf r) (now (s .1 .0)) (w .held)))
+  unfolding ownSays ownLeaves
+  taken-enable-avail-notifications-tied κ a r s p = (ap (λ (o : takenOutcome.Changed). saysQuiet true (o .answer)) (sym p), ap (afterAvailTurn (withConsumer w (a .0) (now (a .1 .0)) (w .held))) (sym p))
+
+  pub taken-enable-avail-notifications-desc-tied : Ties taken-enable-avail-notifications-desc.Post (λ a r s. Step (withConsumer w (a .0) (now (a .1 .0)) (w .held)) (enableAvailDesc (a .1 .1 .0) (a .1 .1 .1 .0)) (saysQuiet true (takenOutcome.answerOf r)) (withConsumer w (takenOutcome.recordOf r) (now (s .1 .0)) (w .held)))
+  unfolding ownSays ownLeaves
+  taken-enable-avail-notifications-desc-tied κ a r s p = (ap (λ (o : takenOutcome.Changed). saysQuiet true (o .answer)) (sym p), ap (afterAvailTurn (withConsumer w (a .0) (now (a .1 .0)) (w .held))) (sym p))
+
+  pub taken-enable-avail-notifications-for-next-tied : Ties taken-enable-avail-notifications-for-next.Post (λ a r s. Step (withConsumer w (a .0) (now (a .1 .0)) (w .held)) enableAvailForNext (saysQuiet true (takenOutcome.answerOf r)) (withConsumer w (takenOutcome.recordOf r) (now (s .1 .0)) (w .held)))
+  unfolding ownSays ownLeaves
+  taken-enable-avail-notifications-for-next-tied κ a r s p = (ap (λ (o : takenOutcome.Changed). saysQuiet true (o .answer)) (sym p), ap (afterAvailTurn (withConsumer w (a .0) (now (a .1 .0)) (w .held))) (sym p))
