@@ -31,11 +31,12 @@ use Rattle.consumer.specs.Poll as polls
 use Rattle.consumer.specs.Poll.{Taken, headRefusal, walkRefusal, pollRefusal, pastOf, pollOf}
 use Rattle.consumer.specs.Complete.{completeRefusal, completedOf, completeOf}
 use Rattle.consumer.specs.Rollback.{checkpointOf, handedRefusal, staleOf, rollbackRefusal, backOf, rollbackOf}
-use Rattle.consumer.specs.Fresh.{freshOf}
+use Rattle.consumer.specs.Fresh.{freshOf, openOf}
 use Rattle.consumer.proofs.Ready.{BytesReady, bytes-ready, LentReady, lent-ready}
 use Rattle.consumer.proofs.Poll.{PollReady, poll-ready}
 use Rattle.consumer.proofs.Complete.{CompleteReady, complete-ready}
 use Rattle.consumer.proofs.Rollback.{RollbackReady, rollback-ready}
+use Rattle.consumer.proofs.Opening.{OpenReady, open-ready}
 use Rattle.vectors.proofs.Producer.{four}
 
 -- a fresh consumer over the ring of `Producer.four`, its 72 bytes zero
@@ -159,6 +160,10 @@ exchange =
     }
 
 -- ---- the premises of the laws, met
+
+pub may-open : OpenReady (layout 4 0 64 68) 72 5
+unfolding openOf badLayout apart outside
+may-open = open-ready 4 0 64 68 (replicate 72 0) (replicate 5 9) refl
 
 pub may-poll : PollReady fresh (first-sent .ring) none none none
 unfolding fresh zeros none addrs lens first-sent four opened.freshOf freshOf bytesOf wordAt putOf getOf step isAvail encodeOf decodeOf markAvail apart badLayout outside badChain slotOf slotPut upFrom lookOf walkOf made.badRecord made.badLent submitRefusal elementOf putTails putChain takenOf submittedOf submitOf badRecord badLent headRefusal walkRefusal pollRefusal
