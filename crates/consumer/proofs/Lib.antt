@@ -4,6 +4,7 @@ pub mod Complete
 pub mod Rollback
 pub mod Notices
 pub mod Reset
+pub mod Opening
 pub mod Same
 pub mod Touch
 pub mod Goes

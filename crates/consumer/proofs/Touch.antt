@@ -1,12 +1,12 @@
 -- Frames: which bytes and which entries each call can touch, and what it leaves of the rest.
 -- Assumes nothing.
-use Prim.Native.Nat.{ℕ, _+_, _*_, _≤_, _<_}
+use Prim.Native.Nat.{ℕ, _≤_}
 use mathlib.Core.Path.{_≡_, refl, _∙_, ap}
-use mathlib.Core.List.{List, [], map}
+use mathlib.Core.List.{List, map}
 use mathlib.Core.Bool.{Bool, false}
 use native.Mathlib.Omega.{arith}
 use lib.ListN.{length, getD, set, replicate, length-replicate}
-use lib.Seq.{sets, getD-set-same, getD-set-other}
+use lib.Seq.{sets, getD-set-other}
 use Rattle.base.specs.Bytes.{getOf}
 use Rattle.base.proofs.Tests.{by-eq}
 use Rattle.cursor.specs.declared.RingCursor.{RingCursor}
@@ -17,15 +17,14 @@ use Rattle.event.proofs.Trips.{encode-length}
 use Rattle.ring.specs.Slots.{placeOf, slotOf}
 use Rattle.ring.specs.Events.{turned, armed}
 use Rattle.ring.proofs.Frames.{Clear, slot-length, slot-clear, slot-other, put-length, put-clear, turned-length, turned-clear, armed-length, armed-clear, sets-behind}
-use Rattle.undo.specs.Undo.{named, clearedOf}
+use Rattle.undo.specs.Undo.{named}
 use Rattle.undo.proofs.Laws.{cleared-other}
-use Rattle.walk.specs.declared.Walk.{Walk}
 use Rattle.walk.specs.Walk.{slotsFrom, addrOf, lenOf}
 use Rattle.walk.proofs.Laws.{slots-length}
 use Rattle.consumer.specs.declared.RingConsumer.{RingConsumer}
 use Rattle.consumer.specs.declared.Checkpoint.{Checkpoint}
 use Rattle.consumer.specs.Record.{bytesRefusal, lentRefusal}
-use Rattle.consumer.specs.Outcome.{Outcome, Rolled}
+use Rattle.consumer.specs.Outcome.{Outcome}
 use Rattle.consumer.specs.Poll.{Taken, headRefusal, walkRefusal, walkedOf, headOf, takenOf, pollOf}
 use Rattle.consumer.specs.Complete.{completeRefusal, completeOf}
 use Rattle.consumer.specs.Rollback.{rollbackOf, rollbackRefusal}

@@ -378,11 +378,12 @@ impl RingConsumer {
     {
         let layout = self.layout;
         let used = self.used;
+        let inflight = self.inflight + n;
         RingConsumer {
             layout,
             avail: at,
             used,
-            inflight: self.inflight + n,
+            inflight,
             shadow: self.shadow,
         }
     }

@@ -5,6 +5,7 @@ pub mod Submit
 pub mod Poll
 pub mod Notices
 pub mod Reset
+pub mod Opening
 pub mod Same
 pub mod Touch
 pub mod Goes

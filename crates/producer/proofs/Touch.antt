@@ -1,13 +1,12 @@
 -- Frames: which bytes and which entries each call can touch, and what it leaves of the rest.
 -- Assumes nothing.
-use Prim.Native.Nat.{ℕ, _+_, _*_, _≤_, _<_}
-use mathlib.Core.Path.{_≡_, refl, sym, _∙_, ap}
-use mathlib.Core.List.{List, []}
+use Prim.Native.Nat.{ℕ, _*_, _≤_, _<_}
+use mathlib.Core.Path.{_≡_, refl, _∙_, ap}
+use mathlib.Core.List.{List}
 use mathlib.Core.Bool.{Bool}
 use native.Mathlib.Omega.{arith}
-use lib.ListN.{length, getD, set, replicate, length-set, length-replicate}
-use lib.Seq.{sets, length-sets, getD-set-same, getD-set-other}
-use Rattle.base.specs.Answer.{done}
+use lib.ListN.{length, getD, set, replicate, length-replicate}
+use lib.Seq.{getD-set-same, getD-set-other}
 use Rattle.base.specs.Bytes.{putOf, getOf}
 use Rattle.base.proofs.Tests.{by-eq}
 use Rattle.cursor.specs.declared.RingCursor.{RingCursor}
@@ -22,8 +21,8 @@ use Rattle.ring.specs.Tables.{upTo}
 use Rattle.ring.proofs.Laws.{up-length}
 use Rattle.ring.proofs.Frames.{Clear, put-length, put-clear, turned-length, turned-clear, armed-length, armed-clear, sets-behind}
 use Rattle.producer.specs.declared.RingProducer.{RingProducer}
-use Rattle.producer.specs.Outcome.{Outcome, Changed}
-use Rattle.producer.specs.Submit.{topOf, submitRefusal, elementOf, putChain, takenOf, submittedOf, submitOf}
+use Rattle.producer.specs.Outcome.{Outcome}
+use Rattle.producer.specs.Submit.{topOf, submitRefusal, elementOf, putChain, submittedOf, submitOf}
 use Rattle.producer.specs.Poll.{pollRefusal, polledOf, pollOf}
 use Rattle.producer.specs.Notices.{bytesRefusal, turnOf, armOf}
 use Rattle.producer.specs.Fresh.{allRefusal, resetOf}

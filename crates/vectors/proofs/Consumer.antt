@@ -1,14 +1,14 @@
--- One exchange, computed: a chain submitted, polled, rolled back, polled again, completed, and its completion polled. What the
--- consumer's laws and the reading back ask can be met; and what a wrong ring would answer otherwise.
+-- One exchange of both ends, computed: two chains submitted, both polled, both polls rolled back, both polled again, one completed, and
+-- its completion polled by the producer. Each step is given the record, the bytes and the tables that the step before left. What the
+-- consumer's laws ask can be met; and what a wrong ring would answer otherwise.
 -- Assumes nothing.
-use Prim.Native.Nat.{ℕ, zero, suc, _+_, _^_, _≤_, _<_}
+use Prim.Native.Nat.{ℕ}
 use mathlib.Core.Path.{_≡_, refl}
 use mathlib.Core.List.{List, [], _∷_}
 use mathlib.Core.Bool.{true}
-use native.Mathlib.Omega.{arith}
-use lib.ListN.{length, getD, replicate}
+use lib.ListN.{replicate}
 use lib.Seq.{sets}
-use Rattle.base.specs.Answer.{Answer, done, refused}
+use Rattle.base.specs.Answer.{done, refused}
 use Rattle.base.specs.Bytes.{bytesOf, wordAt, putOf, getOf}
 use Rattle.cursor.specs.Cursor.{at, step, steps}
 use Rattle.desc.specs.Flags.{isAvail, isUsed}
@@ -20,19 +20,23 @@ use Rattle.ring.specs.Tables.{upTo, upFrom}
 use Rattle.walk.specs.Walk.{lookOf, walkOf, slotsFrom}
 use Rattle.undo.specs.Undo.{named, badIds, totalOf, clearedOf}
 use Rattle.producer.specs.Record as made
+use Rattle.producer.specs.Outcome as left
 use Rattle.producer.specs.Submit.{submitRefusal, elementOf, putTails, putChain, takenOf, submittedOf, submitOf}
+use Rattle.producer.specs.Poll as reclaims
 use Rattle.producer.specs.Fresh as opened
 use Rattle.consumer.specs.declared.RingConsumer.{RingConsumer}
 use Rattle.consumer.specs.Record.{badRecord, badLent, bytesRefusal, lentRefusal}
+use Rattle.consumer.specs.Outcome.{Outcome, Rolled}
 use Rattle.consumer.specs.Poll as polls
-use Rattle.consumer.specs.Poll.{headRefusal, walkRefusal, pollRefusal, pastOf, pollOf, peekOf}
+use Rattle.consumer.specs.Poll.{Taken, headRefusal, walkRefusal, pollRefusal, pastOf, pollOf}
 use Rattle.consumer.specs.Complete.{completeRefusal, completedOf, completeOf}
 use Rattle.consumer.specs.Rollback.{checkpointOf, handedRefusal, staleOf, rollbackRefusal, backOf, rollbackOf}
-use Rattle.consumer.specs.Fresh.{freshOf}
+use Rattle.consumer.specs.Fresh.{freshOf, openOf}
 use Rattle.consumer.proofs.Ready.{BytesReady, bytes-ready, LentReady, lent-ready}
 use Rattle.consumer.proofs.Poll.{PollReady, poll-ready}
 use Rattle.consumer.proofs.Complete.{CompleteReady, complete-ready}
 use Rattle.consumer.proofs.Rollback.{RollbackReady, rollback-ready}
+use Rattle.consumer.proofs.Opening.{OpenReady, open-ready}
 use Rattle.vectors.proofs.Producer.{four}
 
 -- a fresh consumer over the ring of `Producer.four`, its 72 bytes zero
@@ -52,11 +56,50 @@ addrs = 4096 ∷ 8192 ∷ []
 pub lens : List ℕ
 lens = 16 ∷ 32 ∷ []
 
--- the bytes that its submission leaves
-pub written : List ℕ
-written = submitOf four zeros (upTo 4) none addrs lens 1 .ring
+-- ---- the exchange, step by step
 
--- the consumer behind its poll, and the counts
+-- the chain of two submitted, and behind it a writable chain of one
+pub first-sent : left.Outcome
+first-sent = submitOf four zeros (upTo 4) none addrs lens 1
+
+pub sent : left.Outcome
+sent = submitOf (first-sent .end) (first-sent .ring) (first-sent .ids) (first-sent .counts) (12288 ∷ []) (64 ∷ []) 0
+
+-- both wait: two polls, and one that finds nothing
+pub first : Taken
+first = pollOf fresh (sent .ring) none none none
+
+pub second : Taken
+second = pollOf (first .end) (sent .ring) (first .counts) (first .addrs) (first .lens)
+
+pub third : Taken
+third = pollOf (second .end) (sent .ring) (second .counts) (second .addrs) (second .lens)
+
+-- both polls rolled back, and the first polled again
+pub undone : Rolled
+undone = rollbackOf (third .end) (third .counts) (checkpointOf fresh) (3 ∷ 2 ∷ [])
+
+pub again : Taken
+again = pollOf (undone .end) (sent .ring) (undone .counts) (third .addrs) (third .lens)
+
+pub both : Taken
+both = pollOf (again .end) (sent .ring) (again .counts) (again .addrs) (again .lens)
+
+-- the chain of two completed with length 7, and once more
+pub complete : Outcome
+complete = completeOf (both .end) (sent .ring) (both .counts) 3 7
+
+pub twice-complete : Outcome
+twice-complete = completeOf (complete .end) (complete .ring) (complete .counts) 3 7
+
+-- the producer polls the completion, and finds no other
+pub back : left.Outcome
+back = reclaims.pollOf (sent .end) (twice-complete .ring) (sent .ids) (sent .counts)
+
+pub no-more : left.Outcome
+no-more = reclaims.pollOf (back .end) (back .ring) (back .ids) (back .counts)
+
+-- the consumer behind the first poll, and the counts
 pub holding : RingConsumer
 holding = record { layout = layout 4 0 64 68; avail = at 2 true; used = at 0 true; inflight = 2; shadow = 0 }
 
@@ -64,38 +107,67 @@ pub held : List ℕ
 held = 0 ∷ 0 ∷ 0 ∷ 2 ∷ []
 
 pub record Exchange : Type 0 where
-  pub gets-id-3 : submitOf four zeros (upTo 4) none addrs lens 1 .answer ≡ done (3 ∷ [])
-  pub polled : pollOf fresh written none none none .answer ≡ done (3 ∷ 2 ∷ 1 ∷ [])
-  pub record-behind : pollOf fresh written none none none .end ≡ holding
-  pub counts-behind : pollOf fresh written none none none .counts ≡ held
-  pub addresses : pollOf fresh written none none none .addrs ≡ 4096 ∷ 8192 ∷ 0 ∷ 0 ∷ []
-  pub lengths : pollOf fresh written none none none .lens ≡ 16 ∷ 32 ∷ 0 ∷ 0 ∷ []
-  pub then-blocked : pollOf holding written held none none .answer ≡ refused 3
-  pub rolled-back : rollbackOf holding held (checkpointOf fresh) (3 ∷ []) .end ≡ fresh
-  pub completed : completeOf holding written held 3 7 .answer ≡ done []
-  pub completed-once : completeOf (completeOf holding written held 3 7 .end) written none 3 7 .answer ≡ refused 5
+  pub gets-id-3 : first-sent .answer ≡ done (3 ∷ [])
+  pub gets-id-2 : sent .answer ≡ done (2 ∷ [])
+  pub polled : first .answer ≡ done (3 ∷ 2 ∷ 1 ∷ [])
+  -- the avail cursor is past the first chain alone
+  pub record-behind : first .end ≡ holding
+  pub counts-behind : first .counts ≡ held
+  pub addresses : first .addrs ≡ 4096 ∷ 8192 ∷ 0 ∷ 0 ∷ []
+  pub lengths : first .lens ≡ 16 ∷ 32 ∷ 0 ∷ 0 ∷ []
+  -- and the second poll gives the second chain
+  pub polled-second : second .answer ≡ done (2 ∷ 1 ∷ 0 ∷ [])
+  pub cursor-second : second .end .avail ≡ at 3 true
+  pub addresses-second : second .addrs ≡ 12288 ∷ 8192 ∷ 0 ∷ 0 ∷ []
+  pub then-blocked : third .answer ≡ refused 3
+  pub rolled-back : undone .answer ≡ done []
+  pub record-back : undone .end ≡ fresh
+  pub counts-back : undone .counts ≡ none
+  pub polled-again : again .answer ≡ done (3 ∷ 2 ∷ 1 ∷ [])
+  pub both-again : both .answer ≡ done (2 ∷ 1 ∷ 0 ∷ [])
+  pub completed : complete .answer ≡ done []
+  pub completed-once : twice-complete .answer ≡ refused 5
+  -- its own ID and length; and its two slots are free again
+  pub returned : back .answer ≡ done (3 ∷ 7 ∷ [])
+  pub free-again : back .end .free ≡ 3
+  pub returned-once : no-more .answer ≡ refused 3
 
 pub exchange : Exchange
-unfolding fresh zeros none addrs lens written holding held four opened.freshOf freshOf bytesOf wordAt putOf getOf step steps isAvail isUsed encodeOf decodeOf markAvail markUsed apart badLayout outside badChain slotOf slotPut upFrom lookOf walkOf slotsFrom named badIds totalOf clearedOf made.badRecord made.badLent submitRefusal elementOf putTails putChain takenOf submittedOf submitOf badRecord badLent headRefusal walkRefusal pollRefusal pastOf polls.takenOf pollOf completeRefusal completedOf completeOf handedRefusal staleOf rollbackRefusal backOf rollbackOf
+unfolding first-sent sent first second third undone again both complete twice-complete back no-more fresh zeros none addrs lens holding held four opened.freshOf freshOf bytesOf wordAt putOf getOf step steps isAvail isUsed encodeOf decodeOf markAvail markUsed apart badLayout outside badChain slotOf slotPut upFrom lookOf walkOf slotsFrom named badIds totalOf clearedOf made.badRecord made.badLent submitRefusal elementOf putTails putChain takenOf submittedOf submitOf badRecord badLent headRefusal walkRefusal pollRefusal pastOf polls.takenOf pollOf completeRefusal completedOf completeOf handedRefusal staleOf rollbackRefusal backOf rollbackOf reclaims.pollRefusal reclaims.freedOf reclaims.polledOf reclaims.pollOf
 exchange =
     record {
       gets-id-3 = refl;
+      gets-id-2 = refl;
       polled = refl;
       record-behind = refl;
       counts-behind = refl;
       addresses = refl;
       lengths = refl;
+      polled-second = refl;
+      cursor-second = refl;
+      addresses-second = refl;
       then-blocked = refl;
       rolled-back = refl;
+      record-back = refl;
+      counts-back = refl;
+      polled-again = refl;
+      both-again = refl;
       completed = refl;
       completed-once = refl;
+      returned = refl;
+      free-again = refl;
+      returned-once = refl;
     }
 
 -- ---- the premises of the laws, met
 
-pub may-poll : PollReady fresh written none none none
-unfolding fresh zeros none addrs lens written four opened.freshOf freshOf bytesOf wordAt putOf getOf step isAvail encodeOf decodeOf markAvail apart badLayout outside badChain slotOf slotPut upFrom lookOf walkOf made.badRecord made.badLent submitRefusal elementOf putTails putChain takenOf submittedOf submitOf badRecord badLent headRefusal walkRefusal pollRefusal
-may-poll = poll-ready fresh written none none none refl
+pub may-open : OpenReady (layout 4 0 64 68) 72 5
+unfolding openOf badLayout apart outside
+may-open = open-ready 4 0 64 68 (replicate 72 0) (replicate 5 9) refl
+
+pub may-poll : PollReady fresh (first-sent .ring) none none none
+unfolding fresh zeros none addrs lens first-sent four opened.freshOf freshOf bytesOf wordAt putOf getOf step isAvail encodeOf decodeOf markAvail apart badLayout outside badChain slotOf slotPut upFrom lookOf walkOf made.badRecord made.badLent submitRefusal elementOf putTails putChain takenOf submittedOf submitOf badRecord badLent headRefusal walkRefusal pollRefusal
+may-poll = poll-ready fresh (first-sent .ring) none none none refl
 
 pub may-complete : CompleteReady holding 72 3 held
 unfolding holding held completeRefusal badRecord badLent badLayout apart outside
@@ -127,9 +199,7 @@ pub record Otherwise : Type 0 where
   pub twice : rollbackOf holding held (checkpointOf fresh) (3 ∷ 3 ∷ []) .answer ≡ refused 9
   -- 7 comes before 8: a bad record over no bytes
   pub seven-first : pollOf (record { layout = layout 4 0 64 68; avail = at 4 true; used = at 0 true; inflight = 0; shadow = 0 }) [] [] [] [] .answer ≡ refused 7
-  -- a poll that waits for nothing is not a block for ever
-  pub not-for-ever : pollOf fresh written none none none .answer .number ≡ 0
 
 pub otherwise : Otherwise
-unfolding indirect fresh zeros none addrs lens written holding held four opened.freshOf freshOf bytesOf wordAt putOf getOf step steps isAvail encodeOf decodeOf markAvail apart badLayout outside badChain slotOf slotPut upFrom lookOf walkOf slotsFrom named badIds totalOf clearedOf made.badRecord made.badLent submitRefusal elementOf putTails putChain takenOf submittedOf submitOf badRecord badLent headRefusal walkRefusal pollRefusal pastOf polls.takenOf pollOf handedRefusal staleOf rollbackRefusal backOf rollbackOf
-otherwise = record { blocked-first = refl; then-bad = refl; twice = refl; seven-first = refl; not-for-ever = refl }
+unfolding indirect fresh zeros none addrs lens holding held four opened.freshOf freshOf bytesOf wordAt putOf getOf step steps isAvail encodeOf decodeOf markAvail apart badLayout outside badChain slotOf slotPut upFrom lookOf walkOf slotsFrom named badIds totalOf clearedOf made.badRecord made.badLent submitRefusal elementOf putTails putChain takenOf submittedOf submitOf badRecord badLent headRefusal walkRefusal pollRefusal pastOf polls.takenOf pollOf handedRefusal staleOf rollbackRefusal backOf rollbackOf
+otherwise = record { blocked-first = refl; then-bad = refl; twice = refl; seven-first = refl }

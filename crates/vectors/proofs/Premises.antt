@@ -1,17 +1,15 @@
 -- The main theorems of the leaves that have premises, at values that meet them: none of them is empty.
 -- Assumes nothing.
-use Prim.Native.Nat.{ℕ, _+_, _*_, _-_, _≤_, _<_}
 use mathlib.Core.Path.{_≡_, refl}
 use mathlib.Core.Logic.{inl}
-use mathlib.Core.List.{List, [], _∷_}
-use mathlib.Core.Bool.{true, false, not}
+use mathlib.Core.List.{[], _∷_}
+use mathlib.Core.Bool.{true, false}
 use native.Mathlib.Omega.{arith}
 use lib.ListN.{take, drop}
 use lib.Seq.{sets}
 use Rattle.base.specs.Bytes.{bytesOf, wordAt, getOf}
 use Rattle.base.proofs.Words.{word-bytes, bytes-word, bytes-are}
 use Rattle.base.proofs.Runs.{get-same, get-other}
-use Rattle.cursor.specs.declared.RingCursor.{RingCursor}
 use Rattle.cursor.specs.Cursor.{at, step, steps, badMove}
 use Rattle.cursor.proofs.Laws.{lands, steps-twice, steps-fewer, heads-apart}
 use Rattle.cursor.proofs.Ready.{Ready, ready}
@@ -20,7 +18,7 @@ use Rattle.desc.specs.Flags.{WRITE}
 use Rattle.desc.specs.Desc.{descriptor, encodeOf, decodeOf, markAvail, markUsed}
 use Rattle.desc.proofs.Trips as desc
 use Rattle.event.specs.declared.EventSuppression.{EventSuppression}
-use Rattle.event.specs.Event.{DESC, event, offOf, wrapOf}
+use Rattle.event.specs.Event.{DESC, event}
 use Rattle.event.specs.Event as events
 use Rattle.event.proofs.Trips as event-trips
 use Rattle.layout.specs.declared.Layout.{Layout}

@@ -17,9 +17,10 @@ use Rattle.producer.specs.Record.{badRecord, badLent}
 use Rattle.producer.specs.Submit.{submitRefusal}
 use Rattle.producer.specs.Poll.{pollRefusal, nextRefusal}
 use Rattle.producer.specs.Notices.{bytesRefusal, sinceRefusal}
-use Rattle.producer.specs.Fresh.{freshOf, allRefusal}
+use Rattle.producer.specs.Fresh.{freshOf, openOf, allRefusal}
 use Rattle.producer.proofs.Ready.{Ready, ready}
 use Rattle.producer.proofs.Poll.{PollReady, poll-ready}
+use Rattle.producer.proofs.Opening.{OpenReady, open-ready}
 
 -- a fresh ring of four slots over 72 bytes
 unfoldable pub four : RingProducer
@@ -31,6 +32,10 @@ out = record { layout = layout 4 0 64 68; avail = at 1 true; used = at 0 true; f
 
 pub found : Descriptor
 found = descriptor 0 5 3 32896
+
+pub opens : OpenReady (layout 4 0 64 68) 72 4 5
+unfolding openOf badLayout apart outside
+opens = open-ready 4 0 64 68 (replicate 72 0) (replicate 4 9) (replicate 5 9) refl
 
 pub submits : Ready four 72 (upTo 4) (replicate 4 0) 2 2 1
 unfolding four freshOf submitRefusal badRecord badLent badLayout apart outside badChain upFrom

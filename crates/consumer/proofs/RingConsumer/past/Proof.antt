@@ -6,12 +6,12 @@ use Rattle.consumer.specs.Poll.{pastOf}
 use Rattle.consumer.proofs.RingConsumer.past.Statement.{statement}
 use Rattle.consumer.proofs.RingConsumer.past.Tie as tie
 
-add-t6 : tie.Need-add-t6
-add-t6 c = search needs
+add-inflight : tie.Need-add-inflight
+add-inflight c = search needs
 
 returns : tie.Need-returns
 unfolding pastOf
 returns c = refl
 
 pub past-spec : {M : Type 1} → statement M
-past-spec = tie.close (tie.spec add-t6 returns)
+past-spec = tie.close (tie.spec add-inflight returns)
