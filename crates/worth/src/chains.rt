@@ -1,5 +1,4 @@
 // Chains as long as the ring, and longer: what a submission and a poll make of them.
-use crate::tell;
 use consumer::Polled;
 use consumer::RingConsumer;
 use desc::Descriptor;

@@ -1,5 +1,4 @@
 // Four single submissions over four slots, and what is asked of the full ring.
-use crate::tell;
 use producer::NextId;
 use producer::Opened;
 use producer::RingProducer;

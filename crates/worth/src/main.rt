@@ -3,7 +3,6 @@
 mod chains;
 mod ids;
 mod openings;
-mod tell;
 mod twice;
 
 fn main() {

@@ -1,6 +1,5 @@
 // The edges of a ring's size. What is lent has room for 32,769 slots, so that the size alone can be refused. A ring that opens is
 // asked for its size and no more: programs run rings of at most 2,048 slots.
-use crate::tell;
 use consumer::RingConsumer;
 use producer::RingProducer;
 

@@ -1,5 +1,4 @@
 // A completion for an ID already completed, seen from both ends.
-use crate::tell;
 use consumer::Answered;
 use consumer::Polled;
 use consumer::RingConsumer;
