@@ -4,11 +4,17 @@ use mathlib.Core.List.{List, [], _∷_}
 use mathlib.Core.Bool.{cond, _&&_}
 use lib.Dec.{ltb, leb}
 use lib.ListN.{length}
+use denote.Ref.{RefT}
 use Rattle.base.specs.Answer.{Answer, done}
 use Rattle.base.specs.Bytes.{getOf}
 use Rattle.desc.specs.Desc.{decodeOf}
+use Rattle.window.specs.declared.Window.{Window}
 use Rattle.window.specs.declared.Slot.{Slot}
 use Rattle.window.specs.declared.Slot.the-variants.{Holds, Nothing}
+
+-- "a window that keeps a reference to the lent table": that very reference, and the size
+abbrev pub window : RefT (List ℕ) → ℕ → Window
+window t n = record { table = t; size = n }
 
 -- a slot as an answer's values: 1 and its four fields, or 0 where there is nothing
 abbrev pub answerOf : Slot → Answer

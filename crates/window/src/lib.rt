@@ -1,7 +1,7 @@
 // A window over the lent table, for reading tools: slot i decoded, or nothing.
 ghost use mathlib.Core.Path.{_≡_};
 ghost use lib.ListN.{drop};
-ghost use Rattle.window.specs.Window.{answerOf, slotOf};
+ghost use Rattle.window.specs.Window.{window, answerOf, slotOf};
 use base::pick;
 use desc::Descriptor;
 
@@ -32,7 +32,7 @@ fn decoded(table: &[u8], size: u16, i: u16) -> Slot
 
 impl<'a> Window<'a> {
     pub fn new(table: &'a [u8], size: u16) -> Window<'a>
-        ensures { λ r. ⌜ (r .table ≡ table .entry) × (r .size ≡ size) ⌝ }
+        ensures { λ r. ⌜ r ≡ window (table .entry) size ⌝ }
     {
         Window { table, size }
     }
