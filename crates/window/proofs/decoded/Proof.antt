@@ -1,7 +1,7 @@
 -- `window::decoded` meets its contract: each exit by the tests that led to it.
 -- Assumes nothing.
 use borrow.Author.Needs.{needs}
-use Prim.Native.Nat.{_+_, _*_}
+use native.Mathlib.Omega.{arith}
 use mathlib.Core.Path.{sym, ap, _∙_}
 use lib.ListN.{length}
 use borrow.Author.Tests.{leb-true, leb-false}
@@ -17,7 +17,7 @@ mul-at : tie.Need-mul-at
 mul-at c = search needs
 
 returns : tie.Need-returns
-returns c = let a = c .before .before .args in sym (past (a .table .now) (a .size) (a .i) (c .if1 .taken))
+returns c = let a = c .before .before .args in sym (past (a .table .now) (a .size) (a .i) (omega (arith, c .if1 .taken)))
 
 ends-by-requires : tie.Need-ends-by-requires
 ends-by-requires c κs = search needs
@@ -32,15 +32,15 @@ returns-2 : tie.Need-returns-2
 returns-2 c =
     let t = c .before .before in
     let a = t .before .before .before .before .args in
+    let whole = leb-true _ (length (a .table .now)) (sym (t .before .ends-by .ensures) ∙ t .if2 .taken) in
     ap (λ (d : Descriptor). answerOf (Holds d)) (c .decode .ensures ∙ ap decodeOf (c .before .load .ensures))
-    ∙ sym (shown (a .table .now) (a .size) (a .i) (t .before .before .if1 .left)
-    (leb-true (a .i * 16 + 16) (length (a .table .now)) (sym (t .before .ends-by .ensures) ∙ t .if2 .taken)))
+    ∙ sym (shown (a .table .now) (a .size) (a .i) (omega (arith, t .before .before .if1 .left)) (omega (arith, whole)))
 
 returns-3 : tie.Need-returns-3
 returns-3 c =
     let a = c .before .before .before .before .args in
-    sym (cut (a .table .now) (a .size) (a .i)
-    (leb-false (a .i * 16 + 16) (length (a .table .now)) (sym (c .before .ends-by .ensures) ∙ c .if2 .left)))
+    let short = leb-false _ (length (a .table .now)) (sym (c .before .ends-by .ensures) ∙ c .if2 .left) in
+    sym (cut (a .table .now) (a .size) (a .i) (omega (arith, short)))
 
 pub decoded-spec : {M : Type 1} → statement M
 decoded-spec =
