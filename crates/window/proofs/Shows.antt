@@ -9,6 +9,9 @@ use mathlib.Core.Bool.{true}
 use native.Mathlib.Omega.{arith}
 use lib.ListN.{length, getD, take, drop, replicate, length-drop, length-replicate}
 use lib.Seq.{drop-drop}
+use contract.Lifetimes.{Lfts}
+use denote.Ref.{RefT, now}
+use denote.Triple.Clauses.{AtExit}
 use Rattle.base.specs.Answer.{Answer}
 use Rattle.base.specs.Bytes.{putOf, getOf}
 use Rattle.base.proofs.Tests.{by-lt}
@@ -20,9 +23,16 @@ use Rattle.desc.specs.Desc.{descriptor, encodeOf, decodeOf}
 use Rattle.desc.proofs.Trips.{Ranged}
 use Rattle.ring.specs.Slots as ends
 use Rattle.ring.proofs.Frames.{slot-length, slot-same}
+use Rattle.window.specs.declared.Slot.{Slot}
 use Rattle.window.specs.declared.Slot.the-variants.{Holds, Nothing}
 use Rattle.window.specs.Window.{answerOf, slotOf}
-use Rattle.window.proofs.Laws.{shown, past, cut}
+use Rattle.window.proofs.Laws.{shown, past, cut, answer-same}
+use Rattle.desc.proofs.load as loads
+use Rattle.desc.proofs.load.Reads as load
+use Rattle.desc.proofs.Descriptor.decode as decodes
+use Rattle.desc.proofs.Descriptor.decode.Reads as decode
+use Rattle.window.proofs.slot_at as at
+use Rattle.window.proofs.slot_at.Reads as slot-at
 
 abbrev holding : Descriptor → Answer
 holding d = answerOf (Holds d)
@@ -62,6 +72,18 @@ module _ (ring : List ℕ) (table size : ℕ) where
       (λ w. absurd (omega (arith, ap (λ (a : Answer). getD (a .values) 0 0) (sym (load-and-decode i h w) ∙ e)))))
       (λ h. inl h)
 
+-- the same of the functions' own contracts: whatever `slot_at`, `desc::load` and `Descriptor::decode` may answer by them, what `slot_at` answers
+-- holds what the other two make of the slot
+pub by-contract :
+    (κ : Lfts 1) (ring : RefT (List ℕ)) (table size i : ℕ) → i < size → table + i * 16 + 16 ≤ length (now ring)
+    → (x : Slot) (sx : AtExit at.ended κ) → slot-at.Post κ (ring, (table, (size, (i, tt)))) x sx
+    → (b : List ℕ) (sb : AtExit loads.ended κ) → load.Post κ (ring, (table + i * 16, tt)) b sb
+    → (d : Descriptor) (sd : AtExit decodes.ended tt) → decode.Post tt (b, tt) d sd
+    → x ≡ Holds d
+by-contract κ ring table size i h w x sx px b sb pb d sd pd =
+    answer-same x (Holds d)
+    (px ∙ load-and-decode (now ring) table size i h w ∙ ap holding (ap decodeOf (sym pb) ∙ sym pd))
+
 -- what an end wrote into a slot is what a window shows
 pub as-the-ends-write :
     (ring : List ℕ) (table size : ℕ) (c : RingCursor) (d : Descriptor) → Ranged d → c .head < size → ends.placeOf table c + 16 ≤ length ring
@@ -98,6 +120,19 @@ looked = load-and-decode zeros 16 2 1 (omega arith) whole
 
 looked-alike : slotOf (drop 16 zeros) 2 1 ≡ holding (ends.slotOf 16 (cursor.at 1 true) zeros)
 looked-alike = as-the-ends-look zeros 16 2 (cursor.at 1 true) (omega arith) whole
+
+abbrev lent : RefT (List ℕ)
+lent = record { ptr = (0, 0); name = 0; now = zeros }
+
+abbrev zero : Descriptor
+zero = decodeOf (getOf zeros (16 + 1 * 16) 16)
+
+answered : Holds zero ≡ Holds zero
+answered =
+    by-contract ([], tt) lent 16 2 1 (omega arith) whole
+    (Holds zero) (lent, (16, (2, (1, tt)))) (sym looked)
+    (getOf zeros (16 + 1 * 16) 16) (lent, (16 + 1 * 16, tt)) refl
+    zero (getOf zeros (16 + 1 * 16) 16, tt) refl
 
 stored : slotOf (drop 16 (putOf zeros (16 + 1 * 16) (encodeOf d1) .bytes)) 2 1 ≡ holding d1
 stored = as-stored zeros 16 2 1 d1 ranged (omega arith) whole

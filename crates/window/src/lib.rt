@@ -1,22 +1,24 @@
-// A window over the lent table, for reading tools: slot i decoded, or nothing.
+// A window over the lent table, for reading tools (document 01, "What must change shape"): slot i decoded, or nothing. It
+// writes nothing and takes no part in the ring.
 ghost use mathlib.Core.Path.{_≡_};
 ghost use lib.ListN.{drop};
 ghost use Rattle.window.specs.Window.{window, answerOf, slotOf};
 use base::pick;
 use desc::Descriptor;
 
-// The lent table, from its first byte on, and how many slots it has.
+// "a struct with a &[u8] table and its size": the bytes from the table's first on, and how many slots there are.
 pub struct Window<'a> {
     pub table: &'a [u8],
     pub size: u16,
 }
 
+// A slot that is there is shown as it stands, whatever its marks say.
 pub enum Slot {
     Holds(Descriptor),
     Nothing,
 }
 
-// The work, on a plain slice: the borrow checker covers no function over a Window, so no branch stands in those.
+// The work, on a plain slice: a function over a Window is proved by a walk of its code, so every branch stands here.
 fn decoded(table: &[u8], size: u16, i: u16) -> Slot
     ensures { λ r. ⌜ answerOf r ≡ slotOf (now (table .entry)) size i ⌝ }
 {
@@ -37,6 +39,7 @@ impl<'a> Window<'a> {
         Window { table, size }
     }
 
+    // "a thin function decodes slot i"
     pub fn slot(self, i: u16) -> Slot
         ensures { λ r. ⌜ answerOf r ≡ slotOf (now (self .entry .table)) (self .entry .size) i ⌝ }
     {
@@ -44,14 +47,14 @@ impl<'a> Window<'a> {
     }
 }
 
-// What every caller uses that keeps no window: its parameters are a plain slice and numbers.
+// For every caller that keeps no window: its parameters are a plain slice and numbers, so a caller of it needs no walk.
 pub fn slot_of(table: &[u8], size: u16, i: u16) -> Slot
     ensures { λ r. ⌜ answerOf r ≡ slotOf (now (table .entry)) size i ⌝ }
 {
     Window::new(table, size).slot(i)
 }
 
-// The table that begins at a byte of a larger region; past the region's end it has no bytes.
+// The same of a table that begins at a byte of a larger region; one that begins past the region's end has no bytes.
 pub fn slot_at(ring: &[u8], table: usize, size: u16, i: u16) -> Slot
     ensures { λ r. ⌜ answerOf r ≡ slotOf (drop table (now (ring .entry))) size i ⌝ }
 {
