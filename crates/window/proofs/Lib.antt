@@ -1,0 +1,4 @@
+pub mod Laws
+pub mod Shows
+pub mod Contracts
+pub mod Fixed
