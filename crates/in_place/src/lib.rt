@@ -40,3 +40,19 @@ pub fn advance_by(cursor: &mut RingCursor, size: u16, n: u16) -> u8
     *cursor = m.cursor;
     m.number
 }
+
+// To the next slot.
+pub fn advance(cursor: &mut RingCursor, size: u16) -> u8
+    ensures { λ r. ⌜ outcomeOf r (now (cursor .exit)) ≡ advanceOf size 1 (now (cursor .entry)) ⌝ }
+{
+    advance_by(cursor, size, 1)
+}
+
+// A cursor of the caller's own, moved in place: whoever calls this needs no reference.
+pub fn advanced(cursor: RingCursor, size: u16, n: u16) -> Moved
+    ensures { λ r. ⌜ outcomeOf (r .number) (r .cursor) ≡ advanceOf size n cursor ⌝ }
+{
+    let mut c = cursor;
+    let number = advance_by(&mut c, size, n);
+    Moved { number, cursor: c }
+}
