@@ -21,13 +21,13 @@ fn by_value(cursor: RingCursor, size: u16, n: u16) -> Moved
     ensures { λ r. ⌜ outcomeOf (r .number) (r .cursor) ≡ advanceOf size n cursor ⌝ }
 {
     match cursor.advance_by(size, n) {
-        Advanced::To(c) => Moved {
+        Advanced::To(to) => Moved {
             number: 0,
-            cursor: c,
+            cursor: to,
         },
-        Advanced::Refused(e, c) => Moved {
+        Advanced::Refused(e, same) => Moved {
             number: e.number(),
-            cursor: c,
+            cursor: same,
         },
     }
 }

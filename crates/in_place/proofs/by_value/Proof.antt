@@ -16,8 +16,8 @@ use Rattle.in_place.proofs.by_value.Tie as tie
 advance-by-requires : tie.Need-advance-by-requires
 advance-by-requires c κs = search needs
 
-enum-known-c : tie.Need-enum-known-c
-enum-known-c c = search needs
+enum-known-to : tie.Need-enum-known-to
+enum-known-to c = search needs
 
 enum-known-e : tie.Need-enum-known-e
 enum-known-e c = search needs
@@ -27,7 +27,7 @@ number-requires c κs = search needs
 
 returns : tie.Need-returns
 returns c =
-    let g = c .before .c .given in
+    let g = c .before .to .given in
     ap (λ (a : Answer). outcome a (g .0 .0)) (numbered-done (g .0 .0))
     ∙ ap (λ (x : Advanced). outcome (answerOf x) (cursorOf x)) (sym (g .1))
     ∙ c .before .before .before .advance-by .ensures
@@ -44,4 +44,4 @@ returns-2 c =
 pub by-value-spec : {M : Type 1} → statement M
 by-value-spec =
     tie.close
-    (tie.spec advance-by-requires enum-known-c enum-known-e number-requires returns returns-2)
+    (tie.spec advance-by-requires enum-known-to enum-known-e number-requires returns returns-2)
