@@ -1,7 +1,7 @@
 -- Single steps in place are a move in place: "Moving by n, at most the ring size, equals n single steps" (document 01), said of
 -- calls and not of one definition.
 -- Assumes nothing.
-use Prim.Native.Nat.{ℕ, suc, _+_, _≤_, _<_}
+use Prim.Native.Nat.{ℕ, _≤_, _<_}
 use mathlib.Core.Path.{_≡_, refl, sym, subst, ap, _∙_}
 use mathlib.Core.List.{List, [], _∷_}
 use mathlib.Core.Bool.{true, false}

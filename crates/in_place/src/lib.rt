@@ -9,14 +9,14 @@ ghost use Rattle.in_place.specs.InPlace.{outcomeOf};
 use cursor::Advanced;
 use cursor::RingCursor;
 
-// The number of a move's answer and the cursor that it leaves: the cursor that came, where the move is refused. So
-// whoever stores it back has nothing to decide.
+// The number of a move's answer, and the cursor that it leaves: where the move is refused, the one that came. So whoever
+// stores it back has nothing to decide.
 pub struct Moved {
     pub number: u8,
     pub cursor: RingCursor,
 }
 
-// By n slots, by value.
+// By n slots, by value: what there is to decide is decided here.
 fn by_value(cursor: RingCursor, size: u16, n: u16) -> Moved
     ensures { λ r. ⌜ outcomeOf (r .number) (r .cursor) ≡ advanceOf size n cursor ⌝ }
 {
@@ -32,7 +32,7 @@ fn by_value(cursor: RingCursor, size: u16, n: u16) -> Moved
     }
 }
 
-// By n slots.
+// By n slots. 0 is success, and any other number the refusal.
 pub fn advance_by(cursor: &mut RingCursor, size: u16, n: u16) -> u8
     ensures { λ r. ⌜ outcomeOf r (now (cursor .exit)) ≡ advanceOf size n (now (cursor .entry)) ⌝ }
 {
@@ -41,14 +41,14 @@ pub fn advance_by(cursor: &mut RingCursor, size: u16, n: u16) -> u8
     m.number
 }
 
-// To the next slot.
+// To the next slot, which is a move by one.
 pub fn advance(cursor: &mut RingCursor, size: u16) -> u8
     ensures { λ r. ⌜ outcomeOf r (now (cursor .exit)) ≡ advanceOf size 1 (now (cursor .entry)) ⌝ }
 {
     advance_by(cursor, size, 1)
 }
 
-// A cursor of the caller's own, moved in place: whoever calls this needs no reference.
+// A cursor of this function's own is moved in place: its callers hand over plain values, so their proofs have no walk.
 pub fn advanced(cursor: RingCursor, size: u16, n: u16) -> Moved
     ensures { λ r. ⌜ outcomeOf (r .number) (r .cursor) ≡ advanceOf size n cursor ⌝ }
 {

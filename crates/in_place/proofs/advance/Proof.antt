@@ -1,7 +1,7 @@
 -- `in_place::advance` meets its contract: a walk of its MIR, by hand. The reference goes to `advance_by` for good, at its own
 -- lifetime, share and ghost name, so that call's last cursor is this one's.
 -- Assumes nothing.
-use mathlib.Core.Path.{_≡_, refl}
+use mathlib.Core.Path.{refl}
 use Prim.Native.Nat.{ℕ, _<_, _^_}
 use mathlib.Core.List.{[], _∷_, List}
 use native.Mathlib.Omega.{arith}
@@ -12,13 +12,13 @@ use base.Logic.{SProp, ent, sep, emp, via, fst∗}
 use base.Fml.{GName, Lft, Share, ftrue, flft, fres}
 use prog.Memory.{Memory}
 use prog.Routine.{Routine}
-use prog.Wp.{Heap, Calls, Loops, WpFn, Tables}
+use prog.Wp.{Heap, Calls, Loops, WpFn}
 use ghost.Atoms.{Atoms}
 use contract.Monad.{Fun}
-use contract.Running.{givenOf, tables, tablesOf}
+use contract.Running.{givenOf, tables}
 use types.Kit.{Given, ‵, raw, some, later, given, _⊛_, _$_, _∵_, !, qed, by, move, keep, use1, use2, split, join, pick, learn, fsplit, fjoin, suffices, frame, await, done}
 use types.Run.{look, init, forget, stop, hop, from, load, addr, lit, and-then, no-more, assigns, land, returns, enter, alloc1, alloc0, params1, pass1, pass0, free1, free0}
-use sound.WpLaws.{FmC, fmOf, WpFn-mono}
+use sound.WpLaws.{FmC}
 use denote.RattleType.{owns}
 use denote.Laws.{Is}
 use denote.Plain.{uint-vals, uint-tells, uint-makes, uint-lawful}
@@ -27,15 +27,15 @@ use denote.Ref.{RefT, MutRef, ptr-vals, mut-tells}
 use denote.Signature.{plain}
 use denote.Steps.{owned, nothing}
 use denote.Triple.Entry.{onEntry}
-use denote.Triple.Spec.{Meets, tripleOf}
 use denote.Triple.Statement.{Triple}
 use denote.Triple.Call.{calls-at}
-use denote.Triple.Table.{entered, cited}
-use denote.Triple.Walked.{says, Stays, gave-ref, stay-none, walkOf, goes-gave-ref, goes-none, Walks, ends-at, walked, walk-meets}
+use denote.Triple.Table.{cited}
+use denote.Triple.Walked.{says, Stays, gave-ref, stay-none, walkOf, goes-gave-ref, goes-none, AllGo, Walks, ends-at, walked}
 use denote.Exit.{yes}
 use Rattle.cursor.specs.declared.RingCursor.{RingCursor}
 use Rattle.cursor.proofs.RingCursor as T
-use Rattle.in_place.proofs.Called.{AdvanceBy, bound, lent, Told, asked, told}
+use Rattle.in_place.proofs.Closed.{closed}
+use Rattle.in_place.proofs.Called.{AdvanceBy, bound, Told, asked, told}
 use Rattle.in_place.proofs.advance_by.Symbol as advance-by-def
 use Rattle.in_place.proofs.advance_by.Symbol.{name as #in-place·advance-by}
 use Rattle.in_place.proofs.advance_by.Met as advance-by-thm
@@ -84,22 +84,17 @@ module _ {M : Type 1} (𝓤 : URA M) (H : Heap 𝓤) (A : Atoms 𝓤) (W : Given
         keep ! (0 ∷ 1 ∷ []) $ by ! (exits w x e))))))))
 
 module _ {M : Type 1} (𝓤 : URA M) (H : Heap 𝓤) (A : Atoms 𝓤) (W : Given 𝓤 H A) (mem : Memory → SProp 𝓤) (run : Routine → Fun 𝓤) where
-  advance-walks : (C : Calls 𝓤 H) (Λ : Loops 𝓤 H) → FmC 𝓤 H (W .laws) C → Triple 𝓤 (C #in-place·advance-by) (AdvanceBy 𝓤 H A mem run) → Walks 𝓤 H A advance.ended stayed (WpFn 𝓤 H C Λ code.function) (advance.clauses 𝓤 H A mem run)
-  advance-walks C Λ fm known = walked 𝓤 H A advance.ended stayed (advance.clauses 𝓤 H A mem run) (WpFn 𝓤 H C Λ code.function)
+  walks : (C : Calls 𝓤 H) (Λ : Loops 𝓤 H) → Triple 𝓤 (C #in-place·advance-by) (AdvanceBy 𝓤 H A mem run) → FmC 𝓤 H (W .laws) C → Walks 𝓤 H A advance.ended stayed (WpFn 𝓤 H C Λ code.function) (advance.clauses 𝓤 H A mem run)
+  walks C Λ known fm = walked 𝓤 H A advance.ended stayed (advance.clauses 𝓤 H A mem run) (WpFn 𝓤 H C Λ code.function)
       (λ κs. (ptr-vals, (uint-vals w16, tt))) (λ κs. (mut-tells (named 0) (κs .0) T.the-row, (uint-tells w16, tt)))
-      (λ κs qs bounds a _ are. via 𝓤 _ (fst∗ 𝓤 _ (emp 𝓤))
-      (walk 𝓤 H A W mem run (κs .0) (qs .0) (a .0 .ptr .0) (a .0 .ptr .1) (a .0 .name) (a .0 .now) (a .1 .0) (are .1 .0 .1) C Λ fm known))
+      (λ κs qs bounds a _ are. via 𝓤 _ (fst∗ 𝓤 _ (emp 𝓤)) (walk 𝓤 H A W mem run (κs .0) (qs .0) (a .0 .ptr .0) (a .0 .ptr .1) (a .0 .name) (a .0 .now) (a .1 .0) (are .1 .0 .1) C Λ fm known))
 
-advance-meets : {M : Type 1} (𝓤 : URA M) (H : Heap 𝓤) (A : Atoms 𝓤) (W : Given 𝓤 H A) (mem : Memory → SProp 𝓤) (run : Routine → Fun 𝓤) (𝓣 : Tables 𝓤 H) → Triple 𝓤 (𝓣 .C #in-place·advance-by) (AdvanceBy 𝓤 H A mem run)
-    → Meets 𝓤 H A advance.signature (WpFn 𝓤 H (𝓣 .C) (𝓣 .Λ) code.function) (advance.spec 𝓤 H A mem run)
-advance-meets 𝓤 H A W mem run 𝓣 known =
-    walk-meets 𝓤 H A advance.ended stayed W (goes-gave-ref 𝓤 H A W 1 0 tt (plain (λ _. T.the-row)), (goes-none 𝓤 H A W 1 (λ _. u16) yes (λ κs x f. refl), tt)) (advance.clauses 𝓤 H A mem run)
-    (WpFn 𝓤 H (𝓣 .C) (𝓣 .Λ) code.function) (WpFn-mono 𝓤 H (W .laws) 𝓣 code.function) (advance-walks 𝓤 H A W mem run (𝓣 .C) (𝓣 .Λ) (fmOf 𝓤 H (W .laws) 𝓣) known)
+all-go : {M : Type 1} (𝓤 : URA M) (H : Heap 𝓤) (A : Atoms 𝓤) (W : Given 𝓤 H A) → AllGo 𝓤 H A W 1 (advance.signature .params) (advance.ended .kept) stayed
+all-go 𝓤 H A W = (goes-gave-ref 𝓤 H A W 1 0 tt (plain (λ _. T.the-row)), (goes-none 𝓤 H A W 1 (λ _. u16) yes (λ κs x f. refl), tt))
 
 pub advance-spec : {M : Type 1} → stated.statement M
-unfolding code.routine tablesOf
+unfolding code.routine
 advance-spec 𝓤 H 𝓜 𝓖 𝓡 =
-    entered 𝓤 H (tripleOf 𝓤 H (𝓖 .A) advance.signature (advance.spec 𝓤 H (𝓖 .A) (𝓜 .mem) (𝓡 .run)))
-    (tables 𝓤 H 𝓜 𝓡 code.env .C) (tables 𝓤 H 𝓜 𝓡 code.env .Λ) #in-place·advance code.function (code.unfolded 𝓤 H 𝓜 𝓡)
-    (advance-meets 𝓤 H (𝓖 .A) (givenOf 𝓤 H 𝓜 𝓖) (𝓜 .mem) (𝓡 .run) (tablesOf 𝓤 H 𝓜 (tables 𝓤 H 𝓜 𝓡 code.env))
+    closed 𝓤 H 𝓜 𝓖 𝓡 code.env advance.ended stayed (advance.clauses 𝓤 H (𝓖 .A) (𝓜 .mem) (𝓡 .run)) #in-place·advance code.function (code.unfolded 𝓤 H 𝓜 𝓡) (all-go 𝓤 H (𝓖 .A) (givenOf 𝓤 H 𝓜 𝓖))
+    (walks 𝓤 H (𝓖 .A) (givenOf 𝓤 H 𝓜 𝓖) (𝓜 .mem) (𝓡 .run) (tables 𝓤 H 𝓜 𝓡 code.env .C) (tables 𝓤 H 𝓜 𝓡 code.env .Λ)
     (cited 𝓤 H (AdvanceBy 𝓤 H (𝓖 .A) (𝓜 .mem) (𝓡 .run)) 𝓜 𝓡 code.env #in-place·advance-by advance-by-def.routine code.calls-in-place·advance-by (advance-by-thm.met 𝓤 H 𝓜 𝓖 𝓡)))
