@@ -37,6 +37,12 @@ fn kept(size: u16, head: u16, wrap: bool, n: u16, want: u64) {
     tell::case(b"moved", code(c.moved(size, n)), want);
 }
 
+fn lent(size: u16, head: u16, wrap: bool, n: u16, want: u64) {
+    let m = in_place::advanced(RingCursor { head, wrap }, size, n);
+    let seen = std::num::wrapping_add_u64(1000000 * (m.number as u64), code(m.cursor));
+    tell::case(b"in_place", seen, want);
+}
+
 fn fresh(head: u16, wrap: bool, want: u64) {
     let c = RingCursor { head, wrap };
     tell::case(b"reset", code(c.reset()), want);
@@ -90,4 +96,17 @@ pub fn refusals() {
     step(8, 8, true, 7000017);
     kept(8, 6, true, 3, 2);
     kept(8, 3, true, 9, 7);
+}
+
+// In place: D5 to D7, landing on slot 0, and each reason for a 7.
+pub fn in_place() {
+    lent(1, 0, true, 1, 0);
+    lent(8, 6, true, 3, 2);
+    lent(8, 3, true, 8, 6);
+    lent(8, 3, false, 5, 1);
+    lent(32768, 32767, true, 32768, 65534);
+    lent(0, 0, true, 0, 7000001);
+    lent(32769, 0, true, 0, 7000001);
+    lent(8, 8, true, 0, 7000017);
+    lent(8, 3, true, 9, 7000007);
 }

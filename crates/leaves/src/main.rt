@@ -11,6 +11,7 @@ fn main() {
     cursors::steps();
     cursors::moves();
     cursors::refusals();
+    cursors::in_place();
     marks::tests();
     marks::others();
     areas::sizes();
