@@ -7,35 +7,16 @@ use mathlib.Core.List.{List, [], _∷_, _++_}
 use mathlib.Core.Bool.{true, false}
 use native.Mathlib.Omega.{arith}
 use lib.ListN.{length}
-use Rattle.base.specs.Bytes.{bytesOf, wordAt, putOf, getOf}
-use Rattle.cursor.specs.Cursor.{at, step, steps}
-use Rattle.desc.specs.Flags.{isAvail, isUsed}
-use Rattle.desc.specs.Desc.{encodeOf, decodeOf, markAvail, markUsed}
-use Rattle.layout.specs.Layout.{apart, badLayout, outside}
-use Rattle.chain.specs.Chain.{badChain}
-use Rattle.ring.specs.Slots.{slotOf, slotPut}
-use Rattle.ring.specs.Tables.{upFrom}
-use Rattle.ring.specs.Asked.{askOf}
-use Rattle.walk.specs.Walk.{lookOf, walkOf, slotsFrom}
-use Rattle.undo.specs.Undo.{named, badIds, totalOf, clearedOf}
-use Rattle.producer.specs.Record as madeRecord
-use Rattle.producer.specs.Submit as makes
-use Rattle.producer.specs.Poll as usedPoll
-use Rattle.producer.specs.Fresh as madeFresh
+use Rattle.cursor.specs.Cursor.{at}
 use Rattle.consumer.specs.declared.Checkpoint.{Checkpoint}
-use Rattle.consumer.specs.Record as takenRecord
-use Rattle.consumer.specs.Poll as takes
-use Rattle.consumer.specs.Complete.{completeRefusal, completedOf, completeOf}
-use Rattle.consumer.specs.Rollback.{handedRefusal, staleOf, rollbackRefusal, backOf, rollbackOf}
-use Rattle.consumer.specs.Fresh as takenFresh
 use Rattle.queue.specs.History.{Item, Done, History, slotsOf, items, ids, after, times, pubs, polls, comps, lives, held, finished, out}
 use Rattle.queue.specs.History as said
 use Rattle.queue.specs.Promise.{Has, Undoes, Asked, Each, Right, Fifo}
-use Rattle.queue.specs.Machine.{worldOf, historyOf}
+use Rattle.queue.specs.Machine.{historyOf}
 use Rattle.packed.specs.Calls.{oneOf, pollUsed, pollCheckpoint, rollbackPolls}
-use Rattle.packed.specs.Machine.{ownSays, ownLeaves, says, leaves}
 use Rattle.packed.specs.Machine.{Given, packed}
 use Rattle.packed.proofs.Packed.{demand-3}
+use Rattle.history.proofs.Computing.{computing}
 use Rattle.history.proofs.Ends.{zeros, two, three, world-two, world-three, does, chain, submits, submitsOne, completes, polls-for, checkpoint}
 
 abbrev done : ℕ → ℕ → Done
@@ -104,7 +85,7 @@ abbrev older : History Checkpoint
 older = said.looked (said.refused said.reclaim true 5) ∷ older-twice
 
 pub older-answers : historyOf packed world-two older-calls ≡ older
-unfolding historyOf worldOf says leaves ownSays ownLeaves bytesOf wordAt putOf getOf step steps isAvail isUsed encodeOf decodeOf markAvail markUsed apart badLayout outside badChain slotOf slotPut upFrom askOf lookOf walkOf slotsFrom named badIds totalOf clearedOf madeRecord.badRecord madeRecord.badLent makes.submitRefusal makes.elementOf makes.putTails makes.putChain makes.takenOf makes.submittedOf makes.submitOf usedPoll.pollRefusal usedPoll.freedOf usedPoll.polledOf usedPoll.pollOf madeFresh.freshOf madeFresh.openOf takenRecord.badRecord takenRecord.badLent takes.headRefusal takes.walkRefusal takes.pollRefusal takes.pastOf takes.takenOf takes.pollOf completeRefusal completedOf completeOf handedRefusal staleOf rollbackRefusal backOf rollbackOf takenFresh.freshOf takenFresh.openOf
+unfolding computing
 older-answers = refl
 
 -- the other clauses hold: the checkpoint was taken, no completion came since, and the list names as many polls as came
@@ -179,7 +160,7 @@ between-history =
     ∷ []
 
 pub between-answers : historyOf packed world-two between-calls ≡ between-history
-unfolding historyOf worldOf says leaves ownSays ownLeaves bytesOf wordAt putOf getOf step steps isAvail isUsed encodeOf decodeOf markAvail markUsed apart badLayout outside badChain slotOf slotPut upFrom askOf lookOf walkOf slotsFrom named badIds totalOf clearedOf madeRecord.badRecord madeRecord.badLent makes.submitRefusal makes.elementOf makes.putTails makes.putChain makes.takenOf makes.submittedOf makes.submitOf usedPoll.pollRefusal usedPoll.freedOf usedPoll.polledOf usedPoll.pollOf madeFresh.freshOf madeFresh.openOf takenRecord.badRecord takenRecord.badLent takes.headRefusal takes.walkRefusal takes.pollRefusal takes.pastOf takes.takenOf takes.pollOf completeRefusal completedOf completeOf handedRefusal staleOf rollbackRefusal backOf rollbackOf takenFresh.freshOf takenFresh.openOf
+unfolding computing
 between-answers = refl
 
 -- so nothing goes wrong: a rollback that is refused changes nothing, and nothing is asked of it
@@ -277,7 +258,7 @@ abbrev stale : History Checkpoint
 stale = said.looked (said.refused said.reclaim true 5) ∷ stale-last
 
 pub stale-answers : historyOf packed world-two stale-calls ≡ stale
-unfolding historyOf worldOf says leaves ownSays ownLeaves bytesOf wordAt putOf getOf step steps isAvail isUsed encodeOf decodeOf markAvail markUsed apart badLayout outside badChain slotOf slotPut upFrom askOf lookOf walkOf slotsFrom named badIds totalOf clearedOf madeRecord.badRecord madeRecord.badLent makes.submitRefusal makes.elementOf makes.putTails makes.putChain makes.takenOf makes.submittedOf makes.submitOf usedPoll.pollRefusal usedPoll.freedOf usedPoll.polledOf usedPoll.pollOf madeFresh.freshOf madeFresh.openOf takenRecord.badRecord takenRecord.badLent takes.headRefusal takes.walkRefusal takes.pollRefusal takes.pastOf takes.takenOf takes.pollOf completeRefusal completedOf completeOf handedRefusal staleOf rollbackRefusal backOf rollbackOf takenFresh.freshOf takenFresh.openOf
+unfolding computing
 stale-answers = refl
 
 -- the checkpoint was taken, and the list names exactly the polls since that are still held
@@ -356,7 +337,7 @@ abbrev forged : History Checkpoint
 forged = said.polled half ∷ forged-rolled
 
 pub forged-answers : historyOf packed world-three forged-calls ≡ forged
-unfolding historyOf worldOf says leaves ownSays ownLeaves bytesOf wordAt putOf getOf step steps isAvail isUsed encodeOf decodeOf markAvail markUsed apart badLayout outside badChain slotOf slotPut upFrom askOf lookOf walkOf slotsFrom named badIds totalOf clearedOf madeRecord.badRecord madeRecord.badLent makes.submitRefusal makes.elementOf makes.putTails makes.putChain makes.takenOf makes.submittedOf makes.submitOf usedPoll.pollRefusal usedPoll.freedOf usedPoll.polledOf usedPoll.pollOf madeFresh.freshOf madeFresh.openOf takenRecord.badRecord takenRecord.badLent takes.headRefusal takes.walkRefusal takes.pollRefusal takes.pastOf takes.takenOf takes.pollOf completeRefusal completedOf completeOf handedRefusal staleOf rollbackRefusal backOf rollbackOf takenFresh.freshOf takenFresh.openOf
+unfolding computing
 forged-answers = refl
 
 -- the slots of the second of some chains
@@ -396,7 +377,7 @@ abbrev inner : History Checkpoint
 inner = said.looked (said.refused said.poll true 5) ∷ inner-rolled
 
 pub inner-answers : historyOf packed world-three inner-calls ≡ inner
-unfolding historyOf worldOf says leaves ownSays ownLeaves bytesOf wordAt putOf getOf step steps isAvail isUsed encodeOf decodeOf markAvail markUsed apart badLayout outside badChain slotOf slotPut upFrom askOf lookOf walkOf slotsFrom named badIds totalOf clearedOf madeRecord.badRecord madeRecord.badLent makes.submitRefusal makes.elementOf makes.putTails makes.putChain makes.takenOf makes.submittedOf makes.submitOf usedPoll.pollRefusal usedPoll.freedOf usedPoll.polledOf usedPoll.pollOf madeFresh.freshOf madeFresh.openOf takenRecord.badRecord takenRecord.badLent takes.headRefusal takes.walkRefusal takes.pollRefusal takes.pastOf takes.takenOf takes.pollOf completeRefusal completedOf completeOf handedRefusal staleOf rollbackRefusal backOf rollbackOf takenFresh.freshOf takenFresh.openOf
+unfolding computing
 inner-answers = refl
 
 pub inner-wrong : Right 3 inner-rolled (said.looked (said.refused said.poll true 5)) → ⊥
