@@ -31,8 +31,8 @@ use Rattle.packed.proofs.Answers.{either-keeps, poll-counts, reclaim-counts}
 use Rattle.packed.proofs.Packed.{size-stays}
 use Rattle.packed.proofs.Promises as demand
 use Rattle.packed.proofs.Astray.{astray-leaves}
-use Rattle.history.proofs.Ends.{zeros, three, world-three, does, strays, chain, submits, submitsOne, completes, ids-fit, polls-for, checkpoint}
-use Rattle.history.proofs.Run.{a, b, c, d, e, f, g, h, i, done, c2, polled-two, outsider, calls, history, answers, undoes-two, meets}
+use Rattle.history.proofs.Ends.{zeros, three, world-three, does, strays, done, chain, submits, submitsOne, completes, ids-fit, polls-for, checkpoint}
+use Rattle.history.proofs.Run.{a, b, c, d, e, f, g, h, i, c2, polled-two, outsider, calls, history, answers, undoes-two, meets}
 
 -- ---- the first k calls
 

@@ -1,7 +1,6 @@
 -- A history of seventy-three calls on a ring of three slots, computed over bytes, in which every call of both ends stands. It meets every
 -- premise of demand 3, which is applied to it (its sentences, each at a point of it: Applied.antt).
 -- Assumes nothing.
-use Prim.Native.Nat.{ℕ}
 use mathlib.Core.Path.{_≡_, refl, sym, subst}
 use mathlib.Core.Logic.{inl, inr}
 use mathlib.Core.List.{List, [], _∷_}
@@ -17,7 +16,7 @@ use Rattle.producer.specs.Notices as usedNotices
 use Rattle.consumer.specs.declared.RingConsumer.{RingConsumer}
 use Rattle.consumer.specs.declared.Checkpoint.{Checkpoint}
 use Rattle.consumer.specs.Complete.{completeOf, tellOf}
-use Rattle.queue.specs.History.{Item, Done, History, items, pubs, polls, comps, reclaims, lives, held, finished, out}
+use Rattle.queue.specs.History.{Item, History, items, pubs, polls, comps, reclaims, lives, held, finished, out}
 use Rattle.queue.specs.History as said
 use Rattle.queue.specs.Promise.{Undoes, UndoesAll, Asked, Each, Fifo}
 use Rattle.queue.specs.Machine.{worldOf, historyOf}
@@ -25,40 +24,37 @@ use Rattle.packed.specs.Calls.{oneOf, submitAvailableWithNotify, submitOneWithN
 use Rattle.packed.specs.Machine.{World, Given, packed, tellsOf}
 use Rattle.packed.proofs.Packed.{demand-3}
 use Rattle.history.proofs.Computing.{computing}
-use Rattle.history.proofs.Ends.{zeros, three, world-three, typed, does, strays, chain, submits, submitsOne, completes, ids-fit, polls-for, checkpoint}
+use Rattle.history.proofs.Ends.{zeros, three, world-three, typed, does, strays, item, done, chain, submits, submitsOne, completes, ids-fit, polls-for, checkpoint, nothing-asked}
 
 -- ---- the chains, their IDs, and their completions
 
 -- two elements, the first readable; one writable; three of one element each; three elements, two readable; three of one element each
 abbrev pub a : Item
-a = record { id = 2; chain = chain (4096 ∷ 8192 ∷ []) (16 ∷ 32 ∷ []) 1 }
+a = item 2 (chain (4096 ∷ 8192 ∷ []) (16 ∷ 32 ∷ []) 1)
 
 abbrev pub b : Item
-b = record { id = 1; chain = oneOf 12288 64 true }
+b = item 1 (oneOf 12288 64 true)
 
 abbrev pub c : Item
-c = record { id = 2; chain = oneOf 16384 1 false }
+c = item 2 (oneOf 16384 1 false)
 
 abbrev pub d : Item
-d = record { id = 1; chain = oneOf 20480 2 false }
+d = item 1 (oneOf 20480 2 false)
 
 abbrev pub e : Item
-e = record { id = 0; chain = oneOf 24576 3 true }
+e = item 0 (oneOf 24576 3 true)
 
 abbrev pub f : Item
-f = record { id = 1; chain = chain (28672 ∷ 32768 ∷ 36864 ∷ []) (50 ∷ 60 ∷ 70 ∷ []) 2 }
+f = item 1 (chain (28672 ∷ 32768 ∷ 36864 ∷ []) (50 ∷ 60 ∷ 70 ∷ []) 2)
 
 abbrev pub g : Item
-g = record { id = 1; chain = oneOf 40960 4 true }
+g = item 1 (oneOf 40960 4 true)
 
 abbrev pub h : Item
-h = record { id = 2; chain = oneOf 45056 5 false }
+h = item 2 (oneOf 45056 5 false)
 
 abbrev pub i : Item
-i = record { id = 0; chain = oneOf 49152 6 true }
-
-abbrev pub done : ℕ → ℕ → Done
-done id len = record { id = id; len = len }
+i = item 0 (oneOf 49152 6 true)
 
 -- the three checkpoints that are taken
 abbrev pub c0 : Checkpoint
@@ -484,7 +480,7 @@ undoes-two =
 
 -- of every other call nothing is asked, but of a foreign one that it is answered 7 or 8
 asked-1 : Each (Asked Undoes) history-1
-asked-1 = ((((((tt, tt), tt), tt), tt), tt), tt)
+asked-1 = nothing-asked history-1 tt
 
 asked-2 : Each (Asked Undoes) history-2
 asked-2 = (((((asked-1, tt), tt), undoes-one), tt), tt)

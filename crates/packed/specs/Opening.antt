@@ -14,14 +14,12 @@ use Rattle.packed.specs.Machine.{World, Given, packed}
 
 module _ (size table driver device : ℕ) (ring ids counts held : List ℕ) where
   -- both openings are accepted: any geometry that they take, in bytes of any length, with tables of any first contents and any length that
-  -- they take
+  -- they take. "Over one zeroed ring": the descriptor table is zero. A zeroed ring is so; that its event areas and all other bytes are zero
+  -- too is not asked, since no sentence of demand 3 speaks of notifications
   pub record Opening : Type 0 where
     pub producer : made.openOf size table driver device ring ids counts .answer .number ≡ 0
     pub consumer : taken.openOf size table driver device ring held .answer .number ≡ 0
-    -- "over one zeroed ring": the three areas are zero; what else is in the bytes is of no matter (nor, for demand 3, are the event areas)
-    pub table-zero : (k : ℕ) → k < size * 16 → getD ring (table + k) 0 ≡ 0
-    pub driver-zero : (k : ℕ) → k < 4 → getD ring (driver + k) 0 ≡ 0
-    pub device-zero : (k : ℕ) → k < 4 → getD ring (device + k) 0 ≡ 0
+    pub zeroed : (k : ℕ) → k < size * 16 → getD ring (table + k) 0 ≡ 0
 
   -- each end has the record that its opening answered (the fresh one of that geometry) and the tables as it left them
   abbrev pub openedWorld : World
