@@ -1,10 +1,10 @@
 -- Every named sentence of demand 3, applied at a point of the history of Run.antt where its premises hold. `until k` is what the first k calls
 -- said, and `after k c` what the call c is answered then. No answer is computed here: the theorem tells it, from what was said before.
 -- Assumes nothing.
-use Prim.Native.Nat.{ℕ, zero, suc, _+_, _-_, _<_}
+use Prim.Native.Nat.{ℕ, zero, suc, _+_, _-_, _≤_, _<_}
 use mathlib.Core.Path.{_≡_, refl, sym, ap, _∙_, subst}
 use mathlib.Core.Logic.{_≢_, _⊎_, inl, inr}
-use mathlib.Core.List.{[], _∷_}
+use mathlib.Core.List.{[], _∷_, _++_}
 use mathlib.Core.Bool.{Bool, true, false, false≢true, _&&_}
 use native.Mathlib.Omega.{arith}
 use lib.Dec.{leb}
@@ -22,7 +22,6 @@ use Rattle.queue.specs.Promise.{Has, Unlike, Fine, Each}
 use Rattle.queue.specs.Sentences.{At, Stands, Literally, Own, OwnBefore}
 use Rattle.queue.specs.Machine.{worldOf, historyOf}
 use Rattle.queue.proofs.Machine.{history-drop}
-use Rattle.queue.proofs.Undone.{undone}
 use Rattle.packed.specs.Calls.{Foreign, oneOf, pollUsed, nextId, shouldNotifySince, pollAvailable, submitUsedWithNotify, peekAvailable, rollbackPolls, consumers}
 use Rattle.packed.specs.Machine.{World, Given, packed, submitsOf, ownSays, ownLeaves, astrayIn, asked, says}
 use Rattle.packed.specs.Opening.{Run}
@@ -32,7 +31,7 @@ use Rattle.packed.proofs.Packed.{size-stays}
 use Rattle.packed.proofs.Promises as demand
 use Rattle.packed.proofs.Astray.{astray-leaves}
 use Rattle.history.proofs.Ends.{zeros, three, world-three, does, strays, done, chain, submits, submitsOne, completes, ids-fit, polls-for, checkpoint}
-use Rattle.history.proofs.Run.{a, b, c, d, e, f, g, h, i, c2, polled-two, outsider, calls, history, answers, undoes-two, meets}
+use Rattle.history.proofs.Run.{a, b, c, d, e, f, g, h, i, c2, outsider, calls, history, answers, undoes-two, meets}
 
 -- ---- the first k calls
 
@@ -286,17 +285,22 @@ no-elements n z = go (demand.submit-refused (first 60) (until 59) (chain [] [] 0
 pub all-were-free : slotsIn (out (until 40)) ≡ 0
 all-were-free = omega (arith, demand.submit-fits (first 41) (until 40) f (spoken 41))
 
+-- `never-over`: with c, d and e out, no more slots are out than three, nor more chains than slots
+pub three-out : (slotsIn (out (until 28)) ≤ 3) × (length (c ∷ d ∷ e ∷ []) ≤ slotsIn (out (until 28)))
+unfolding out
+three-out = subst (λ t. (slotsIn (out t) ≤ 3) × (length (out t) ≤ slotsIn (out t))) (spoken 28) (demand.never-over (first 28))
+
 -- `none-is-free`, `next-is-free`: three chains are out, so next_id answers no ID, and its refusal is 4
 pub no-next : after 28 next ≡ said.looked (said.refused said.nextId true 4)
 unfolding says ownSays out
 no-next =
     either-keeps (λ v. after 28 next ≡ v → after 28 next ≡ said.looked (said.refused said.nextId true 4))
     (usedPoll.nextOf (world 28 .prod) (world 28 .ids) (world 28 .counts)) _ _
-    (λ z. absurd (three-out (demand.next-is-free (first 29) (until 28) _ (reads 28 next refl _ z) .1 .1)))
+    (λ z. absurd (not-below (demand.next-is-free (first 29) (until 28) _ (reads 28 next refl _ z) .1 .1)))
     (λ z. z ∙ ap (λ (m : ℕ). said.looked (said.refused said.nextId true m)) (demand.none-is-free (first 29) (until 28) _ (reads 28 next refl _ z) .0)) refl
   where
-    three-out : 3 < 3 → ⊥
-    three-out y = omega (arith, y)
+    not-below : 3 < 3 → ⊥
+    not-below y = omega (arith, y)
 
 -- ---- rollbacks
 
@@ -311,10 +315,18 @@ rolls-back =
     (λ z. z)
     (λ z. absurd (demand.rollback-accepted (first 51) (until 50) c2 (2 ∷ 1 ∷ []) _ _ (reads 50 roll-two refl _ z) undoes-two)) refl
 
--- `undone`: behind it the polls stand that stood at its checkpoint
+-- `rolls-back`: behind it the polls stand that stood at its checkpoint, and g and h wait again
 pub stand-again : lives (until 51) ≡ lives (until 47)
 unfolding undoes-two
-stand-again = undone polled-two c2 (2 ∷ 1 ∷ []) (undoes-two .undoes) ∙ undoes-two .stand
+stand-again = demand.rolls-back (first 51) (until 50) c2 (2 ∷ 1 ∷ []) (spoken 51) (undoes-two .undoes) .0 ∙ undoes-two .stand
+
+since-c2 : items (said.after (polls (until 47)) (lives (until 50))) ++ waiting (until 50) ≡ g ∷ h ∷ []
+unfolding pubs polls lives
+since-c2 = refl
+
+pub wait-again : waiting (until 51) ≡ g ∷ h ∷ []
+unfolding undoes-two
+wait-again = demand.rolls-back (first 51) (until 50) c2 (2 ∷ 1 ∷ []) (spoken 51) (undoes-two .undoes) .2 ∙ since-c2
 
 -- ---- 7 and 8
 

@@ -9,8 +9,8 @@ use mathlib.Core.List.{List, [], _∷_, _++_}
 use lib.ListN.{length, drop}
 use lib.Dec.{T}
 use Rattle.consumer.specs.declared.Checkpoint.{Checkpoint}
-use Rattle.queue.specs.History.{Chain, Item, Done, Call, Event, History, slotsOf, slotsIn, items, pubs, comps, reclaims, lives, held, out, finished, promised, waiting}
-use Rattle.queue.specs.History.{submit, poll, complete, reclaim, rollback, nextId, other, nexted, peeked, refused, submitted, polled, completed, reclaimed, looked}
+use Rattle.queue.specs.History.{Chain, Item, Done, Call, Event, History, slotsOf, slotsIn, items, upto, after, pubs, polls, comps, reclaims, lives, held, out, finished, promised, waiting}
+use Rattle.queue.specs.History.{submit, poll, complete, reclaim, rollback, nextId, other, nexted, peeked, refused, submitted, polled, completed, reclaimed, rolled, looked}
 use Rattle.queue.specs.Promise.{Has, Unlike, Fine, Undoes, UndoesAll, Asked, Each, RightBadNo, RightNo, Right, Fifo}
 use Rattle.queue.specs.Sentences.{All, At, isPoll, pollCalls, Still, isReclaim, reclaimCalls, Literally, Own, OwnBefore}
 use Rattle.queue.proofs.Model.{AllOk}
@@ -19,7 +19,8 @@ use Rattle.queue.proofs.Machine.{history-drop, each-drop}
 use Rattle.queue.proofs.Ahead.{ahead}
 use Rattle.queue.proofs.Returned.{returned}
 use Rattle.queue.proofs.Literal.{literal}
-use Rattle.queue.proofs.Reader.{own-completion, own-before, once-each, frees, fresh-id}
+use Rattle.queue.proofs.Reader.{own-completion, own-before, once-each, frees, fresh-id, slots-fit, chains-fit}
+use Rattle.queue.proofs.Undone.{undone, undone-held, wait-again}
 use Rattle.queue.proofs.Handed.{handed}
 use Rattle.packed.specs.Machine.{packed}
 use Rattle.packed.specs.Opening.{openedWorld, Run, said}
@@ -81,6 +82,21 @@ module _ (r : Run) where
       (h : History Checkpoint) (x : Item) → said r ≡ submitted x ∷ h
       → Unlike (x .id) (items (drop (length (reclaims h)) (finished h))) × Unlike (x .id) (items (held h)) × Unlike (x .id) (waiting h)
   new-id h x s = fresh-id size h x (subst (AllOk size) s ok)
+
+  -- never more slots are out than the ring has, nor more chains than slots: a submission that finds slots finds an ID
+  pub never-over : (slotsIn (out (said r)) ≤ size) × (length (out (said r)) ≤ slotsIn (out (said r)))
+  never-over = (slots-fit size (said r) ok, chains-fit size (said r) ok)
+
+  -- "undoing every poll since": behind a rollback the polls stand that came before its checkpoint, those of them that are not completed are
+  -- held, and the chains of the others wait again, the oldest first, before those that waited
+  pub rolls-back :
+      (h : History Checkpoint) (c : Checkpoint) (js : List ℕ) → said r ≡ rolled c js ∷ h → (u : Undoes h c js)
+      → (lives (rolled c js ∷ h) ≡ upto (polls (u .before)) (lives h))
+      × (held (rolled c js ∷ h) ≡ upto (polls (u .before)) (held h))
+      × (waiting (rolled c js ∷ h) ≡ items (after (polls (u .before)) (lives h)) ++ waiting h)
+  rolls-back h c js s u =
+      let k : AllOk size h = subst (AllOk size) s ok .0 in
+      (undone h c js u, undone-held h c js u size k, wait-again h c js u size k)
 
   -- ---- what the last call was answered
 
