@@ -5,7 +5,7 @@ use mathlib.Core.List.{List, [], _∷_, _++_}
 use mathlib.Core.Bool.{Bool, true, false, cond, _||_}
 use lib.Dec.{eqb}
 use lib.ListN.{length}
-use Rattle.queue.specs.History.{Item, Done, Call, Look, Event, History, Poll, butLast, times, pubs, comps, reclaims, lives, finished}
+use Rattle.queue.specs.History.{Item, Done, Call, Event, History, Poll, butLast, times, pubs, comps, reclaims, lives, finished}
 use Rattle.queue.specs.History.{submit, poll, complete, reclaim, rollback, nextId, other, nexted, peeked, quiet, refused, astray, submitted, polled, completed, reclaimed, marked, rolled, looked}
 
 -- of each of a list
@@ -29,27 +29,15 @@ abbrev pub latest : ℕ → List Item → ℕ
 latest x [] = 0
 latest x (y ∷ ys) = cond (hasb x ys) (suc (latest x ys)) 0
 
+-- how many of a list are such
+abbrev pub counted : {A : Type 0} → (A → Bool) → List A → ℕ
+counted P [] = 0
+counted P (x ∷ xs) = cond (P x) (suc (counted P xs)) (counted P xs)
+
 module _ {C : Type 0} where
-  -- ---- which events are polls that count
+  -- ---- which calls count: "Calls refused for bad records or buffers aren't counted"
 
-  abbrev pub pollCall : Call C → Bool → Bool
-  pollCall (submit c) good = false
-  pollCall poll good = good
-  pollCall (complete d) good = false
-  pollCall reclaim good = false
-  pollCall (rollback c js) good = false
-  pollCall nextId good = false
-  pollCall other good = false
-
-  abbrev pub pollLook : Look C → Bool
-  pollLook (nexted i) = false
-  pollLook (peeked b) = false
-  pollLook quiet = false
-  pollLook (refused c good n) = pollCall c good
-  pollLook (astray n) = false
-
-  -- "Calls refused for bad records or buffers aren't counted": a poll counts if it gave a chain, or was refused though all that it was
-  -- handed was good
+  -- a poll counts if it gave a chain, or was refused though all that it was handed was good
   abbrev pub isPoll : Event C → Bool
   isPoll (submitted x) = false
   isPoll (polled x) = true
@@ -57,12 +45,44 @@ module _ {C : Type 0} where
   isPoll (reclaimed d) = false
   isPoll (marked c) = false
   isPoll (rolled c js) = false
-  isPoll (looked l) = pollLook l
+  isPoll (looked (nexted i)) = false
+  isPoll (looked (peeked b)) = false
+  isPoll (looked quiet) = false
+  isPoll (looked (refused (submit c) good n)) = false
+  isPoll (looked (refused poll good n)) = good
+  isPoll (looked (refused (complete d) good n)) = false
+  isPoll (looked (refused reclaim good n)) = false
+  isPoll (looked (refused (rollback c js) good n)) = false
+  isPoll (looked (refused nextId good n)) = false
+  isPoll (looked (refused other good n)) = false
+  isPoll (looked (astray n)) = false
 
-  -- the polls of a stretch
+  -- a poll_used counts if it returned a completion, or was refused though all that it was handed was good
+  abbrev pub isReclaim : Event C → Bool
+  isReclaim (submitted x) = false
+  isReclaim (polled x) = false
+  isReclaim (completed d) = false
+  isReclaim (reclaimed d) = true
+  isReclaim (marked c) = false
+  isReclaim (rolled c js) = false
+  isReclaim (looked (nexted i)) = false
+  isReclaim (looked (peeked b)) = false
+  isReclaim (looked quiet) = false
+  isReclaim (looked (refused (submit c) good n)) = false
+  isReclaim (looked (refused poll good n)) = false
+  isReclaim (looked (refused (complete d) good n)) = false
+  isReclaim (looked (refused reclaim good n)) = good
+  isReclaim (looked (refused (rollback c js) good n)) = false
+  isReclaim (looked (refused nextId good n)) = false
+  isReclaim (looked (refused other good n)) = false
+  isReclaim (looked (astray n)) = false
+
+  -- the polls of a stretch that count, and the polls of the producer
   abbrev pub pollCalls : History C → ℕ
-  pollCalls [] = 0
-  pollCalls (e ∷ g) = cond (isPoll e) (suc (pollCalls g)) (pollCalls g)
+  pollCalls g = counted isPoll g
+
+  abbrev pub reclaimCalls : History C → ℕ
+  reclaimCalls g = counted isReclaim g
 
   -- no poll was rolled back: no rollback, or one of nothing
   abbrev pub Still : Event C → Type 0
@@ -73,40 +93,6 @@ module _ {C : Type 0} where
   Still (marked c) = Unit
   Still (rolled c js) = js ≡ []
   Still (looked l) = Unit
-
-  -- ---- which events are polls of the producer that count
-
-  abbrev pub reclaimCall : Call C → Bool → Bool
-  reclaimCall (submit c) good = false
-  reclaimCall poll good = false
-  reclaimCall (complete d) good = false
-  reclaimCall reclaim good = good
-  reclaimCall (rollback c js) good = false
-  reclaimCall nextId good = false
-  reclaimCall other good = false
-
-  abbrev pub reclaimLook : Look C → Bool
-  reclaimLook (nexted i) = false
-  reclaimLook (peeked b) = false
-  reclaimLook quiet = false
-  reclaimLook (refused c good n) = reclaimCall c good
-  reclaimLook (astray n) = false
-
-  -- "Calls refused for bad records or buffers aren't counted": a poll_used counts if it returned a completion, or was refused though all
-  -- that it was handed was good
-  abbrev pub isReclaim : Event C → Bool
-  isReclaim (submitted x) = false
-  isReclaim (polled x) = false
-  isReclaim (completed d) = false
-  isReclaim (reclaimed d) = true
-  isReclaim (marked c) = false
-  isReclaim (rolled c js) = false
-  isReclaim (looked l) = reclaimLook l
-
-  -- the producer's polls of a stretch
-  abbrev pub reclaimCalls : History C → ℕ
-  reclaimCalls [] = 0
-  reclaimCalls (e ∷ g) = cond (isReclaim e) (suc (reclaimCalls g)) (reclaimCalls g)
 
   -- ---- the sentence by the numbers of publications
 
