@@ -1,4 +1,5 @@
--- The words of the sentences about histories: which calls count, which publication a poll is of, which submission a completion is of.
+-- The sentences of demand 3 that name calls and publications by their numbers: which calls count, which publication a poll is of, which
+-- submission a completion is of. They follow from `Fifo` (packed/proofs/Promises.antt names each).
 use Prim.Native.Nat.{ℕ, zero, suc, _<_}
 use mathlib.Core.Path.{_≡_}
 use mathlib.Core.List.{List, [], _∷_, _++_}
@@ -21,6 +22,7 @@ At (y ∷ ys) (suc j) x = At ys j x
 
 -- ---- which publication a poll is of: the latest one that got its ID. The first publication of a history is number 0.
 
+-- whether an item of that ID is in the list, and the place of the last one
 abbrev pub hasb : ℕ → List Item → Bool
 hasb x [] = false
 hasb x (y ∷ ys) = eqb (y .id) x || hasb x ys
@@ -84,7 +86,7 @@ module _ {C : Type 0} where
   abbrev pub reclaimCalls : History C → ℕ
   reclaimCalls g = counted isReclaim g
 
-  -- no poll was rolled back: no rollback, or one of nothing
+  -- "if nothing is rolled back meanwhile": no rollback, or one of no polls
   abbrev pub Still : Event C → Type 0
   Still (submitted x) = Unit
   Still (polled x) = Unit
@@ -96,7 +98,7 @@ module _ {C : Type 0} where
 
   -- ---- the sentence by the numbers of publications
 
-  -- the publications that the standing polls are of
+  -- the publications that the standing polls are of, by their numbers
   unfoldable pub sources : History C → List ℕ
   sources [] = []
   sources (submitted x ∷ h) = sources h
@@ -122,8 +124,8 @@ module _ {C : Type 0} where
   LiterallyNo h nextId good n = Unit
   LiterallyNo h other good n = Unit
 
-  -- "A poll returns the oldest published chain whose polls, if any, were all rolled back": its publication gave this very chain, no poll
-  -- of it stands, and of each older one a poll does. "It blocks only when none waits": of each publication a poll stands.
+  -- "a poll returns the oldest published chain whose polls, if any, were all rolled back": its publication gave this very chain, no poll
+  -- of it stands, and of each older one a poll does. "and blocks only when none waits": of each publication a poll stands.
   abbrev pub Literally : History C → Event C → Type 0
   Literally h (submitted x) = Unit
   Literally h (polled x) =
@@ -138,7 +140,7 @@ module _ {C : Type 0} where
   Literally h (looked (refused c good n)) = LiterallyNo h c good n
   Literally h (looked (astray n)) = Unit
 
-  -- the j-th completion that poll_used returned is of the p-th submission
+  -- "completions meet their own submissions": the j-th completion that poll_used returned is of the p-th submission, both counted from 0
   pub record Own (h : History C) (j p : ℕ) : Type 0 where
     pub done : Done
     pub poll : Poll
