@@ -1,5 +1,6 @@
 -- Every named sentence of demand 3, applied at a point of the history of Run.antt where its premises hold. `until k` is what the first k calls
--- said, and `after k c` what the call c is answered then. No answer is computed here: the theorem tells it, from what was said before.
+-- said (Run.antt `answers`), and `after k c` what the call c is answered then, which is not computed here: the theorem tells it, from what
+-- was said before. Where a theorem speaks of what an answer shows, the answer is taken from `answers`, and what it shows is not computed.
 -- Assumes nothing.
 use Prim.Native.Nat.{ℕ, zero, suc, _+_, _-_, _≤_, _<_}
 use mathlib.Core.Path.{_≡_, refl, sym, ap, _∙_, subst}
