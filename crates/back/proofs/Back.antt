@@ -24,7 +24,7 @@ use Rattle.walk.specs.Walk.{slotsFrom, addrOf, lenOf}
 use Rattle.walk.proofs.Laws.{Spelt, walk-whole, slots-length, slots-at}
 use Rattle.producer.specs.declared.RingProducer.{RingProducer}
 use Rattle.producer.specs.Submit.{topOf, submitRefusal, elementOf, submitOf}
-use Rattle.producer.proofs.Ready.{Ready, ready}
+use Rattle.producer.proofs.Ready.{ready}
 use Rattle.producer.proofs.Frame.{Says, chain-at, element-ranged, marked-says}
 use Rattle.producer.proofs.Touch.{submit-ring}
 use Rattle.consumer.specs.declared.RingConsumer.{RingConsumer}

@@ -1,11 +1,12 @@
--- Rings of two and of three slots, each opened by two fresh ends over zero bytes, and the calls of both ends, written short.
+-- Rings of two and of three slots, each opened by two fresh ends over zero bytes; the calls of both ends, written short; and histories of
+-- which nothing is asked.
 -- Assumes nothing.
 use Prim.Native.Nat.{ℕ, zero, suc, _+_, _^_, _<_}
 use mathlib.Core.Path.{_≡_, refl}
 use mathlib.Core.List.{List, [], _∷_}
 use mathlib.Core.Bool.{Bool, true, false, false≢true, _&&_}
 use native.Mathlib.Omega.{arith}
-use lib.Dec.{ltb}
+use lib.Dec.{T, ltb}
 use lib.ListN.{getD, replicate, getD-replicate}
 use borrow.Author.Tests.{ltb-true}
 use Rattle.cursor.specs.declared.RingCursor.{RingCursor}
@@ -14,12 +15,13 @@ use Rattle.producer.specs.Fresh as made
 use Rattle.consumer.specs.declared.Checkpoint.{Checkpoint}
 use Rattle.consumer.specs.Fresh as taken
 use Rattle.ring.specs.Tables.{upFrom}
-use Rattle.queue.specs.History.{Chain}
+use Rattle.queue.specs.History.{Chain, Item, Done, History}
+use Rattle.queue.specs.History.{nexted, peeked, quiet, refused, astray, submitted, polled, completed, reclaimed, marked, rolled, looked}
+use Rattle.queue.specs.Promise.{Undoes, Asked, Each}
 use Rattle.packed.specs.Calls.{Own, Foreign, Typed, TypedChain, oneOf}
 use Rattle.packed.specs.Calls.{submitAvailable, submitOne, pollAvailable, submitUsed, own, foreign}
-use Rattle.packed.specs.Machine.{World}
+use Rattle.packed.specs.Machine.{World, Given}
 use Rattle.packed.specs.Opening.{Opening, openedWorld}
-use Rattle.packed.specs.Machine.{Given}
 
 -- ---- the openings
 
@@ -29,14 +31,7 @@ zeros n = replicate n 0
 -- two slots: the table at 0, the driver's event area at 32, the device's at 36; 40 bytes
 pub two : Opening 2 0 32 36 (zeros 40) (zeros 2) (zeros 2) (zeros 2)
 unfolding made.openOf made.freshOf taken.openOf taken.freshOf badLayout outside apart upFrom
-two =
-    record {
-      producer = refl;
-      consumer = refl;
-      table-zero = λ k h. getD-replicate 40 (0 + k) 0 0 (omega (arith, h));
-      driver-zero = λ k h. getD-replicate 40 (32 + k) 0 0 (omega (arith, h));
-      device-zero = λ k h. getD-replicate 40 (36 + k) 0 0 (omega (arith, h));
-    }
+two = record { producer = refl; consumer = refl; zeroed = λ k h. getD-replicate 40 (0 + k) 0 0 (omega (arith, h)) }
 
 abbrev pub world-two : World
 world-two = openedWorld 2 0 32 36 (zeros 40) (zeros 2) (zeros 2) (zeros 2)
@@ -44,14 +39,7 @@ world-two = openedWorld 2 0 32 36 (zeros 40) (zeros 2) (zeros 2) (zeros 2)
 -- three slots: 56 bytes
 pub three : Opening 3 0 48 52 (zeros 56) (zeros 3) (zeros 3) (zeros 3)
 unfolding made.openOf made.freshOf taken.openOf taken.freshOf badLayout outside apart upFrom
-three =
-    record {
-      producer = refl;
-      consumer = refl;
-      table-zero = λ k h. getD-replicate 56 (0 + k) 0 0 (omega (arith, h));
-      driver-zero = λ k h. getD-replicate 56 (48 + k) 0 0 (omega (arith, h));
-      device-zero = λ k h. getD-replicate 56 (52 + k) 0 0 (omega (arith, h));
-    }
+three = record { producer = refl; consumer = refl; zeroed = λ k h. getD-replicate 56 (0 + k) 0 0 (omega (arith, h)) }
 
 abbrev pub world-three : World
 world-three = openedWorld 3 0 48 52 (zeros 56) (zeros 3) (zeros 3) (zeros 3)
@@ -82,6 +70,13 @@ does c t = record { call = own c; typed = t }
 abbrev pub strays : Foreign → Given
 strays f = record { call = foreign f; typed = tt }
 
+-- a chain that got this ID; a completion
+abbrev pub item : ℕ → Chain → Item
+item id c = record { id = id; chain = c }
+
+abbrev pub done : ℕ → ℕ → Done
+done id len = record { id = id; len = len }
+
 -- addresses, lengths, how many are readable
 abbrev pub chain : List ℕ → List ℕ → ℕ → Chain
 chain xs ls r = record { addrs = xs; lens = ls; readable = r }
@@ -105,3 +100,33 @@ completes id len i l = does (submitUsed id len) (ids-fit id len i l)
 -- a checkpoint of any value: the avail cursor, the used cursor, the slots in flight
 abbrev pub checkpoint : RingCursor → RingCursor → ℕ → Checkpoint
 checkpoint a u n = record { avail = a; used = u; inflight = n }
+
+-- ---- a history with no rollback and no call given what is not its end's own: of it the premise asks nothing
+
+abbrev pub plain : History Checkpoint → Bool
+plain [] = true
+plain (submitted x ∷ h) = plain h
+plain (polled x ∷ h) = plain h
+plain (completed d ∷ h) = plain h
+plain (reclaimed d ∷ h) = plain h
+plain (marked c ∷ h) = plain h
+plain (rolled c js ∷ h) = false
+plain (looked (nexted i) ∷ h) = plain h
+plain (looked (peeked b) ∷ h) = plain h
+plain (looked quiet ∷ h) = plain h
+plain (looked (refused c good n) ∷ h) = plain h
+plain (looked (astray n) ∷ h) = false
+
+pub nothing-asked : (h : History Checkpoint) → T (plain h) → Each (Asked Undoes) h
+nothing-asked [] t = tt
+nothing-asked (submitted x ∷ h) t = (nothing-asked h t, tt)
+nothing-asked (polled x ∷ h) t = (nothing-asked h t, tt)
+nothing-asked (completed d ∷ h) t = (nothing-asked h t, tt)
+nothing-asked (reclaimed d ∷ h) t = (nothing-asked h t, tt)
+nothing-asked (marked c ∷ h) t = (nothing-asked h t, tt)
+nothing-asked (rolled c js ∷ h) t = absurd t
+nothing-asked (looked (nexted i) ∷ h) t = (nothing-asked h t, tt)
+nothing-asked (looked (peeked b) ∷ h) t = (nothing-asked h t, tt)
+nothing-asked (looked quiet ∷ h) t = (nothing-asked h t, tt)
+nothing-asked (looked (refused c good n) ∷ h) t = (nothing-asked h t, tt)
+nothing-asked (looked (astray n) ∷ h) t = absurd t

@@ -1,3 +1,5 @@
+pub mod Computing
+pub mod Applied
 pub mod Ends
 pub mod Run
 pub mod Without

@@ -7,39 +7,17 @@ use mathlib.Core.List.{List, [], _∷_, _++_}
 use mathlib.Core.Bool.{true, false}
 use native.Mathlib.Omega.{arith}
 use lib.ListN.{length}
-use Rattle.base.specs.Bytes.{bytesOf, wordAt, putOf, getOf}
-use Rattle.cursor.specs.Cursor.{at, step, steps}
-use Rattle.desc.specs.Flags.{isAvail, isUsed}
-use Rattle.desc.specs.Desc.{encodeOf, decodeOf, markAvail, markUsed}
-use Rattle.layout.specs.Layout.{apart, badLayout, outside}
-use Rattle.chain.specs.Chain.{badChain}
-use Rattle.ring.specs.Slots.{slotOf, slotPut}
-use Rattle.ring.specs.Tables.{upFrom}
-use Rattle.ring.specs.Asked.{askOf}
-use Rattle.walk.specs.Walk.{lookOf, walkOf, slotsFrom}
-use Rattle.undo.specs.Undo.{named, badIds, totalOf, clearedOf}
-use Rattle.producer.specs.Record as madeRecord
-use Rattle.producer.specs.Submit as makes
-use Rattle.producer.specs.Poll as usedPoll
-use Rattle.producer.specs.Fresh as madeFresh
+use Rattle.cursor.specs.Cursor.{at}
 use Rattle.consumer.specs.declared.Checkpoint.{Checkpoint}
-use Rattle.consumer.specs.Record as takenRecord
-use Rattle.consumer.specs.Poll as takes
-use Rattle.consumer.specs.Complete.{completeRefusal, completedOf, completeOf}
-use Rattle.consumer.specs.Rollback.{handedRefusal, staleOf, rollbackRefusal, backOf, rollbackOf}
-use Rattle.consumer.specs.Fresh as takenFresh
-use Rattle.queue.specs.History.{Item, Done, History, slotsOf, items, ids, after, times, pubs, polls, comps, lives, held, finished, out}
+use Rattle.queue.specs.History.{Item, History, slotsOf, items, ids, after, times, pubs, polls, comps, lives, held, finished, out}
 use Rattle.queue.specs.History as said
 use Rattle.queue.specs.Promise.{Has, Undoes, Asked, Each, Right, Fifo}
-use Rattle.queue.specs.Machine.{worldOf, historyOf}
+use Rattle.queue.specs.Machine.{historyOf}
 use Rattle.packed.specs.Calls.{oneOf, pollUsed, pollCheckpoint, rollbackPolls}
-use Rattle.packed.specs.Machine.{ownSays, ownLeaves, says, leaves}
 use Rattle.packed.specs.Machine.{Given, packed}
 use Rattle.packed.proofs.Packed.{demand-3}
-use Rattle.history.proofs.Ends.{zeros, two, three, world-two, world-three, does, chain, submits, submitsOne, completes, polls-for, checkpoint}
-
-abbrev done : ℕ → ℕ → Done
-done id len = record { id = id; len = len }
+use Rattle.history.proofs.Computing.{computing}
+use Rattle.history.proofs.Ends.{zeros, two, three, world-two, world-three, does, item, done, chain, submits, submitsOne, completes, polls-for, checkpoint, nothing-asked}
 
 -- by demand 3 poll_available and poll_used, given what is good, are refused with 3 alone
 not-five : {A : Type 0} → _≡_ {A = ℕ} 5 3 × A → ⊥
@@ -49,10 +27,10 @@ not-five r = omega (arith, r .0)
 
 -- a and b are one element each, on a ring of two slots. a is polled; a checkpoint; b is polled; and the rollback names a
 abbrev a : Item
-a = record { id = 1; chain = oneOf 4096 16 false }
+a = item 1 (oneOf 4096 16 false)
 
 abbrev b : Item
-b = record { id = 0; chain = oneOf 8192 16 false }
+b = item 0 (oneOf 8192 16 false)
 
 abbrev between : Checkpoint
 between = checkpoint (at 1 true) (at 0 true) 1
@@ -104,7 +82,7 @@ abbrev older : History Checkpoint
 older = said.looked (said.refused said.reclaim true 5) ∷ older-twice
 
 pub older-answers : historyOf packed world-two older-calls ≡ older
-unfolding historyOf worldOf says leaves ownSays ownLeaves bytesOf wordAt putOf getOf step steps isAvail isUsed encodeOf decodeOf markAvail markUsed apart badLayout outside badChain slotOf slotPut upFrom askOf lookOf walkOf slotsFrom named badIds totalOf clearedOf madeRecord.badRecord madeRecord.badLent makes.submitRefusal makes.elementOf makes.putTails makes.putChain makes.takenOf makes.submittedOf makes.submitOf usedPoll.pollRefusal usedPoll.freedOf usedPoll.polledOf usedPoll.pollOf madeFresh.freshOf madeFresh.openOf takenRecord.badRecord takenRecord.badLent takes.headRefusal takes.walkRefusal takes.pollRefusal takes.pastOf takes.takenOf takes.pollOf completeRefusal completedOf completeOf handedRefusal staleOf rollbackRefusal backOf rollbackOf takenFresh.freshOf takenFresh.openOf
+unfolding computing
 older-answers = refl
 
 -- the other clauses hold: the checkpoint was taken, no completion came since, and the list names as many polls as came
@@ -179,33 +157,33 @@ between-history =
     ∷ []
 
 pub between-answers : historyOf packed world-two between-calls ≡ between-history
-unfolding historyOf worldOf says leaves ownSays ownLeaves bytesOf wordAt putOf getOf step steps isAvail isUsed encodeOf decodeOf markAvail markUsed apart badLayout outside badChain slotOf slotPut upFrom askOf lookOf walkOf slotsFrom named badIds totalOf clearedOf madeRecord.badRecord madeRecord.badLent makes.submitRefusal makes.elementOf makes.putTails makes.putChain makes.takenOf makes.submittedOf makes.submitOf usedPoll.pollRefusal usedPoll.freedOf usedPoll.polledOf usedPoll.pollOf madeFresh.freshOf madeFresh.openOf takenRecord.badRecord takenRecord.badLent takes.headRefusal takes.walkRefusal takes.pollRefusal takes.pastOf takes.takenOf takes.pollOf completeRefusal completedOf completeOf handedRefusal staleOf rollbackRefusal backOf rollbackOf takenFresh.freshOf takenFresh.openOf
+unfolding computing
 between-answers = refl
 
 -- so nothing goes wrong: a rollback that is refused changes nothing, and nothing is asked of it
 pub between-fifo : Fifo 2 (historyOf packed world-two between-calls)
 between-fifo =
     demand-3 2 0 32 36 (zeros 40) (zeros 2) (zeros 2) (zeros 2) two between-calls
-    (subst (Each (Asked Undoes)) (sym between-answers) ((((((((((tt, tt), tt), tt), tt), tt), tt), tt), tt), tt), tt))
+    (subst (Each (Asked Undoes)) (sym between-answers) (nothing-asked between-history tt))
 
 -- ---- (c) "with no completion between": completions of exactly twice the ring's size, after which the ring does not refuse it
 
 -- a checkpoint of the fresh ring. A chain of two and a chain of one are polled and completed. p and q are polled and q is completed: four
 -- slots in all, and the used cursor is where it was. p alone is held, and the rollback names it
 abbrev x : Item
-x = record { id = 1; chain = chain (4096 ∷ 8192 ∷ []) (16 ∷ 16 ∷ []) 1 }
+x = item 1 (chain (4096 ∷ 8192 ∷ []) (16 ∷ 16 ∷ []) 1)
 
 abbrev z : Item
-z = record { id = 1; chain = oneOf 12288 16 false }
+z = item 1 (oneOf 12288 16 false)
 
 abbrev p : Item
-p = record { id = 1; chain = oneOf 16384 16 false }
+p = item 1 (oneOf 16384 16 false)
 
 abbrev q : Item
-q = record { id = 0; chain = oneOf 20480 16 false }
+q = item 0 (oneOf 20480 16 false)
 
 abbrev r : Item
-r = record { id = 0; chain = oneOf 24576 16 false }
+r = item 0 (oneOf 24576 16 false)
 
 abbrev stale-calls : List Given
 stale-calls =
@@ -277,7 +255,7 @@ abbrev stale : History Checkpoint
 stale = said.looked (said.refused said.reclaim true 5) ∷ stale-last
 
 pub stale-answers : historyOf packed world-two stale-calls ≡ stale
-unfolding historyOf worldOf says leaves ownSays ownLeaves bytesOf wordAt putOf getOf step steps isAvail isUsed encodeOf decodeOf markAvail markUsed apart badLayout outside badChain slotOf slotPut upFrom askOf lookOf walkOf slotsFrom named badIds totalOf clearedOf madeRecord.badRecord madeRecord.badLent makes.submitRefusal makes.elementOf makes.putTails makes.putChain makes.takenOf makes.submittedOf makes.submitOf usedPoll.pollRefusal usedPoll.freedOf usedPoll.polledOf usedPoll.pollOf madeFresh.freshOf madeFresh.openOf takenRecord.badRecord takenRecord.badLent takes.headRefusal takes.walkRefusal takes.pollRefusal takes.pastOf takes.takenOf takes.pollOf completeRefusal completedOf completeOf handedRefusal staleOf rollbackRefusal backOf rollbackOf takenFresh.freshOf takenFresh.openOf
+unfolding computing
 stale-answers = refl
 
 -- the checkpoint was taken, and the list names exactly the polls since that are still held
@@ -319,10 +297,10 @@ stale-unmet m = stale-not-fifo (demand-3 2 0 32 36 (zeros 40) (zeros 2) (zeros 2
 -- on a ring of three slots, s is one element and t two. Both are polled and t is completed; no checkpoint is ever taken. The one handed in is
 -- one slot back, inside of t
 abbrev s : Item
-s = record { id = 2; chain = oneOf 4096 16 false }
+s = item 2 (oneOf 4096 16 false)
 
 abbrev t : Item
-t = record { id = 1; chain = chain (8192 ∷ 12288 ∷ []) (16 ∷ 32 ∷ []) 1 }
+t = item 1 (chain (8192 ∷ 12288 ∷ []) (16 ∷ 32 ∷ []) 1)
 
 abbrev inside : Checkpoint
 inside = checkpoint (at 2 true) (at 2 true) 0
@@ -350,13 +328,13 @@ forged-rolled =
 
 -- the next poll gives a chain that was never published: the second element of t alone
 abbrev half : Item
-half = record { id = 1; chain = oneOf 12288 32 true }
+half = item 1 (oneOf 12288 32 true)
 
 abbrev forged : History Checkpoint
 forged = said.polled half ∷ forged-rolled
 
 pub forged-answers : historyOf packed world-three forged-calls ≡ forged
-unfolding historyOf worldOf says leaves ownSays ownLeaves bytesOf wordAt putOf getOf step steps isAvail isUsed encodeOf decodeOf markAvail markUsed apart badLayout outside badChain slotOf slotPut upFrom askOf lookOf walkOf slotsFrom named badIds totalOf clearedOf madeRecord.badRecord madeRecord.badLent makes.submitRefusal makes.elementOf makes.putTails makes.putChain makes.takenOf makes.submittedOf makes.submitOf usedPoll.pollRefusal usedPoll.freedOf usedPoll.polledOf usedPoll.pollOf madeFresh.freshOf madeFresh.openOf takenRecord.badRecord takenRecord.badLent takes.headRefusal takes.walkRefusal takes.pollRefusal takes.pastOf takes.takenOf takes.pollOf completeRefusal completedOf completeOf handedRefusal staleOf rollbackRefusal backOf rollbackOf takenFresh.freshOf takenFresh.openOf
+unfolding computing
 forged-answers = refl
 
 -- the slots of the second of some chains
@@ -396,7 +374,7 @@ abbrev inner : History Checkpoint
 inner = said.looked (said.refused said.poll true 5) ∷ inner-rolled
 
 pub inner-answers : historyOf packed world-three inner-calls ≡ inner
-unfolding historyOf worldOf says leaves ownSays ownLeaves bytesOf wordAt putOf getOf step steps isAvail isUsed encodeOf decodeOf markAvail markUsed apart badLayout outside badChain slotOf slotPut upFrom askOf lookOf walkOf slotsFrom named badIds totalOf clearedOf madeRecord.badRecord madeRecord.badLent makes.submitRefusal makes.elementOf makes.putTails makes.putChain makes.takenOf makes.submittedOf makes.submitOf usedPoll.pollRefusal usedPoll.freedOf usedPoll.polledOf usedPoll.pollOf madeFresh.freshOf madeFresh.openOf takenRecord.badRecord takenRecord.badLent takes.headRefusal takes.walkRefusal takes.pollRefusal takes.pastOf takes.takenOf takes.pollOf completeRefusal completedOf completeOf handedRefusal staleOf rollbackRefusal backOf rollbackOf takenFresh.freshOf takenFresh.openOf
+unfolding computing
 inner-answers = refl
 
 pub inner-wrong : Right 3 inner-rolled (said.looked (said.refused said.poll true 5)) → ⊥

@@ -2,7 +2,7 @@
 -- Assumes nothing.
 use Prim.Native.Nat.{ℕ}
 use mathlib.Core.Path.{_≡_, refl, sym, ap, _∙_}
-use mathlib.Core.Logic.{_⊎_, inl, inr, ⊎-elim}
+use mathlib.Core.Logic.{inl, inr, ⊎-elim}
 use mathlib.Core.Bool.{Bool, true, false}
 use mathlib.Core.List.{List, []}
 use native.Mathlib.Omega.{arith}
@@ -41,7 +41,7 @@ use Rattle.packed.specs.Machine.{World, saysQuiet, afterUsedTurn, afterA
 use Rattle.packed.proofs.Answers.{either-refused}
 use Rattle.packed.proofs.Position.{pos, pos-low}
 use Rattle.packed.proofs.Counts.{Used}
-use Rattle.packed.proofs.Invariant.{Like, Good, good-by, big, p-sound, p-whole, c-sound, c-whole, like-look, like-same}
+use Rattle.packed.proofs.Invariant.{Like, Good, good-by, big, p-sound, p-whole, c-sound, c-whole, with-shadows, like-look, like-same}
 
 module _ (l : Layout) (laid-out : badLayout l ≡ false) where
   abbrev size : ℕ
@@ -85,96 +85,80 @@ module _ (l : Layout) (laid-out : badLayout l ≡ false) where
         ∙ ap (λ (b : Bool). said.looked (said.refused said.other b 7)) (le-ltb (old .head) (w .prod .layout .size) h))
         refl (refl, (ret, like-look l laid-out ret w q k (said.refused said.other false 7) (k .promise))))
 
+    -- ---- notifications: they change a shadow and bytes of an event area
+
+    abbrev shadowed : ℕ → ℕ → List ℕ → World
+    shadowed = with-shadows l laid-out ret w q k
+
+    -- bytes outside of an event area that is no part of the table are as they were
+    event-like : (at : ℕ) → Apart (l .table) (tableBytes l) at 4 → (s t : ℕ) (r : List ℕ) → length r ≡ length (w .ring)
+        → ((place : ℕ) → Clear at 4 place 16 → getOf r place 16 ≡ getOf (w .ring) place 16) → Like l ret (shadowed s t r) q
+    event-like at apart s t r e h =
+        like-same l laid-out ret w q k s t r e
+        (λ p. sym (slot-by-bytes (l .table) (pos size p) r (w .ring) (h (placeOf (l .table) (pos size p)) (event-clear at p apart))))
+
+    -- the area at a place turned, and armed
+    turned-like : (at : ℕ) → Apart (l .table) (tableBytes l) at 4 → (s t f : ℕ) → Like l ret (shadowed s t (turned at f (w .ring))) q
+    turned-like at apart s t f =
+        event-like at apart s t (turned at f (w .ring)) (turned-length at (w .ring) f) (λ p. turned-clear at (w .ring) f p 16)
+
+    armed-like : (at : ℕ) → Apart (l .table) (tableBytes l) at 4 → (s t o : ℕ) (b : Bool) → Like l ret (shadowed s t (armed at o b (w .ring))) q
+    armed-like at apart s t o b =
+        event-like at apart s t (armed at o b (w .ring)) (armed-length at (w .ring) o b) (λ p. armed-clear at (w .ring) o b p 16)
+
+    -- a call of either end whose outcome o is x, answered, with a world behind it that is like the queue
+    module _ {O : Type 0} (answerOf : O → Answer) (behind : O → World) where
+      outcome-good : (o x : O) → o ≡ x → answerOf x ≡ done [] → Like l ret (behind x) q → Good l q (saysQuiet true (answerOf o)) (behind o)
+      outcome-good o x e d m =
+          good-by l q _ (said.looked said.quiet) _ (behind x) (ap (λ (y : O). saysQuiet true (answerOf y)) e ∙ ap (saysQuiet true) d) (ap behind e) (quiet (behind x) m)
+
     -- ---- the driver's event area
+
     driver-apart : Apart (l .table) (tableBytes l) (w .prod .layout .driver) 4
     driver-apart = rw (k .p-layout) (laid l laid-out .table-driver)
 
-    abbrev with-prod : ℕ → List ℕ → World
-    with-prod s r =
-        record {
-          prod = record { layout = w .prod .layout; avail = w .prod .avail; used = w .prod .used; free = w .prod .free; height = w .prod .height; shadow = s };
-          ids = w .ids;
-          counts = w .counts;
-          cons = w .cons;
-          held = w .held;
-          ring = r;
-        }
+    used-good : (o x : madeOutcome.Changed) → o ≡ x → x .answer ≡ done [] → Like l ret (afterUsedTurn w x) q → Good l q (saysQuiet true (o .answer)) (afterUsedTurn w o)
+    used-good = outcome-good (λ x. x .answer) (afterUsedTurn w)
 
-    used-quiet : (s : ℕ) (r : List ℕ) → length r ≡ length (w .ring)
-        → ((p : ℕ) → getOf r (placeOf (l .table) (pos size p)) 16 ≡ getOf (w .ring) (placeOf (l .table) (pos size p)) 16)
-        → Good l q (said.looked said.quiet) (with-prod s r)
-    used-quiet s r e h =
-        quiet (with-prod s r)
-        (like-same l laid-out ret w q k (with-prod s r) refl refl refl refl refl refl refl refl refl refl refl refl e
-        (λ p. sym (slot-by-bytes (l .table) (pos size p) r (w .ring) (h p))))
+    p-goes : usedNotices.bytesRefusal (w .prod) (length (w .ring)) ≡ 0
+    p-goes = makes.bytes-goes (w .prod) (length (w .ring)) (p-sound l laid-out ret w q k) (p-whole l laid-out ret w q k)
+
+    -- the record with other flags in its shadow, written out
+    p-shadow : (f : ℕ) (r : List ℕ) → madeOutcome.changed (done []) (usedNotices.shadowOf (w .prod) f) r ≡ madeOutcome.changed (done []) (shadowed f 0 r .prod) r
+    p-shadow f r = ap (λ (p : RingProducer). madeOutcome.changed (done []) p r) (makes.shadow-is (w .prod) f)
 
     pub turn-used-good : (f : ℕ) → Good l q (saysQuiet true (usedNotices.turnOf (w .prod) (w .ring) f .answer)) (afterUsedTurn w (usedNotices.turnOf (w .prod) (w .ring) f))
     turn-used-good f =
-        let z = makes.bytes-goes (w .prod) (length (w .ring)) (p-sound l laid-out ret w q k) (p-whole l laid-out ret w q k) in
         by-eq (w .prod .shadow) f
-        (λ s.
-        let e = usedLaws.turn-kept (w .prod) (w .ring) f z s in
-        good-by l q _ (said.looked said.quiet) _ w (ap (λ (o : madeOutcome.Changed). saysQuiet true (o .answer)) e) (ap (afterUsedTurn w) e) (quiet w k))
-        (λ s.
-        let r = turned (w .prod .layout .driver) f (w .ring) in
-        let e = usedLaws.turn-done (w .prod) (w .ring) f z s ∙ ap (λ (p : RingProducer). madeOutcome.changed (done []) p r) (makes.shadow-is (w .prod) f) in
-        good-by l q _ (said.looked said.quiet) _ (with-prod f r) (ap (λ (o : madeOutcome.Changed). saysQuiet true (o .answer)) e) (ap (afterUsedTurn w) e)
-        (used-quiet f r (turned-length (w .prod .layout .driver) (w .ring) f)
-        (λ p. turned-clear (w .prod .layout .driver) (w .ring) f (placeOf (l .table) (pos size p)) 16 (event-clear (w .prod .layout .driver) p driver-apart))))
+        (λ s. used-good _ _ (usedLaws.turn-kept (w .prod) (w .ring) f p-goes s) refl k)
+        (λ s. used-good _ _ (usedLaws.turn-done (w .prod) (w .ring) f p-goes s ∙ p-shadow f _) refl (turned-like (w .prod .layout .driver) driver-apart f (w .cons .shadow) f))
 
     pub arm-used-good :
         (o : ℕ) (b : Bool) → Good l q (saysQuiet true (usedNotices.armOf (w .prod) (w .ring) o b .answer)) (afterUsedTurn w (usedNotices.armOf (w .prod) (w .ring) o b))
     arm-used-good o b =
-        let z = makes.bytes-goes (w .prod) (length (w .ring)) (p-sound l laid-out ret w q k) (p-whole l laid-out ret w q k) in
-        let r = armed (w .prod .layout .driver) o b (w .ring) in
-        let e = usedLaws.arm-done (w .prod) (w .ring) o b z ∙ ap (λ (p : RingProducer). madeOutcome.changed (done []) p r) (makes.shadow-is (w .prod) DESC) in
-        good-by l q _ (said.looked said.quiet) _ (with-prod DESC r) (ap (λ (x : madeOutcome.Changed). saysQuiet true (x .answer)) e) (ap (afterUsedTurn w) e)
-        (used-quiet DESC r (armed-length (w .prod .layout .driver) (w .ring) o b)
-        (λ p. armed-clear (w .prod .layout .driver) (w .ring) o b (placeOf (l .table) (pos size p)) 16 (event-clear (w .prod .layout .driver) p driver-apart)))
+        used-good _ _ (usedLaws.arm-done (w .prod) (w .ring) o b p-goes ∙ p-shadow DESC _) refl (armed-like (w .prod .layout .driver) driver-apart DESC (w .cons .shadow) o b)
 
     -- ---- the device's
+
     device-apart : Apart (l .table) (tableBytes l) (w .cons .layout .device) 4
     device-apart = rw (k .c-layout) (laid l laid-out .table-device)
 
-    abbrev with-cons : ℕ → List ℕ → World
-    with-cons s r =
-        record {
-          prod = w .prod;
-          ids = w .ids;
-          counts = w .counts;
-          cons = record { layout = w .cons .layout; avail = w .cons .avail; used = w .cons .used; inflight = w .cons .inflight; shadow = s };
-          held = w .held;
-          ring = r;
-        }
+    avail-good : (o x : takenOutcome.Changed) → o ≡ x → x .answer ≡ done [] → Like l ret (afterAvailTurn w x) q → Good l q (saysQuiet true (o .answer)) (afterAvailTurn w o)
+    avail-good = outcome-good (λ x. x .answer) (afterAvailTurn w)
 
-    avail-quiet : (s : ℕ) (r : List ℕ) → length r ≡ length (w .ring)
-        → ((p : ℕ) → getOf r (placeOf (l .table) (pos size p)) 16 ≡ getOf (w .ring) (placeOf (l .table) (pos size p)) 16)
-        → Good l q (said.looked said.quiet) (with-cons s r)
-    avail-quiet s r e h =
-        quiet (with-cons s r)
-        (like-same l laid-out ret w q k (with-cons s r) refl refl refl refl refl refl refl refl refl refl refl refl e
-        (λ p. sym (slot-by-bytes (l .table) (pos size p) r (w .ring) (h p))))
+    c-goes : taken.bytesRefusal (w .cons) (length (w .ring)) ≡ 0
+    c-goes = takes.bytes-goes (w .cons) (length (w .ring)) (c-sound l laid-out ret w q k) (c-whole l laid-out ret w q k)
+
+    c-shadow : (f : ℕ) (r : List ℕ) → takenOutcome.changed (done []) (availNotices.shadowOf (w .cons) f) r ≡ takenOutcome.changed (done []) (shadowed 0 f r .cons) r
+    c-shadow f r = ap (λ (p : RingConsumer). takenOutcome.changed (done []) p r) (takes.shadow-is (w .cons) f)
 
     pub turn-avail-good : (f : ℕ) → Good l q (saysQuiet true (availNotices.turnOf (w .cons) (w .ring) f .answer)) (afterAvailTurn w (availNotices.turnOf (w .cons) (w .ring) f))
     turn-avail-good f =
-        let z = takes.bytes-goes (w .cons) (length (w .ring)) (c-sound l laid-out ret w q k) (c-whole l laid-out ret w q k) in
         by-eq (w .cons .shadow) f
-        (λ s.
-        let e = availLaws.turn-kept (w .cons) (w .ring) f z s in
-        good-by l q _ (said.looked said.quiet) _ w (ap (λ (o : takenOutcome.Changed). saysQuiet true (o .answer)) e) (ap (afterAvailTurn w) e) (quiet w k))
-        (λ s.
-        let r = turned (w .cons .layout .device) f (w .ring) in
-        let e = availLaws.turn-done (w .cons) (w .ring) f z s ∙ ap (λ (p : RingConsumer). takenOutcome.changed (done []) p r) (takes.shadow-is (w .cons) f) in
-        good-by l q _ (said.looked said.quiet) _ (with-cons f r) (ap (λ (o : takenOutcome.Changed). saysQuiet true (o .answer)) e) (ap (afterAvailTurn w) e)
-        (avail-quiet f r (turned-length (w .cons .layout .device) (w .ring) f)
-        (λ p. turned-clear (w .cons .layout .device) (w .ring) f (placeOf (l .table) (pos size p)) 16 (event-clear (w .cons .layout .device) p device-apart))))
+        (λ s. avail-good _ _ (availLaws.turn-kept (w .cons) (w .ring) f c-goes s) refl k)
+        (λ s. avail-good _ _ (availLaws.turn-done (w .cons) (w .ring) f c-goes s ∙ c-shadow f _) refl (turned-like (w .cons .layout .device) device-apart (w .prod .shadow) f f))
 
     pub arm-avail-good :
         (o : ℕ) (b : Bool) → Good l q (saysQuiet true (availNotices.armOf (w .cons) (w .ring) o b .answer)) (afterAvailTurn w (availNotices.armOf (w .cons) (w .ring) o b))
     arm-avail-good o b =
-        let z = takes.bytes-goes (w .cons) (length (w .ring)) (c-sound l laid-out ret w q k) (c-whole l laid-out ret w q k) in
-        let r = armed (w .cons .layout .device) o b (w .ring) in
-        let e = availLaws.arm-done (w .cons) (w .ring) o b z ∙ ap (λ (p : RingConsumer). takenOutcome.changed (done []) p r) (takes.shadow-is (w .cons) DESC) in
-        good-by l q _ (said.looked said.quiet) _ (with-cons DESC r) (ap (λ (x : takenOutcome.Changed). saysQuiet true (x .answer)) e) (ap (afterAvailTurn w) e)
-        (avail-quiet DESC r (armed-length (w .cons .layout .device) (w .ring) o b)
-        (λ p. armed-clear (w .cons .layout .device) (w .ring) o b (placeOf (l .table) (pos size p)) 16 (event-clear (w .cons .layout .device) p device-apart)))
+        avail-good _ _ (availLaws.arm-done (w .cons) (w .ring) o b c-goes ∙ c-shadow DESC _) refl (armed-like (w .cons .layout .device) device-apart (w .prod .shadow) DESC o b)

@@ -10,7 +10,7 @@ use native.Mathlib.Omega.{arith}
 use lib.Dec.{eqb}
 use lib.ListN.{length}
 use borrow.Author.Tests.{eqb-true}
-use Rattle.base.specs.Answer.{Answer, refused}
+use Rattle.base.specs.Answer.{Answer}
 use Rattle.base.proofs.Tests.{split, by-eq}
 use Rattle.ring.specs.Slots.{slotOf}
 use Rattle.producer.specs.Outcome as made

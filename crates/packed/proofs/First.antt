@@ -111,7 +111,7 @@ module _ (size table driver device : ℕ) (ring ids counts held : List ℕ) (o :
       (slot-zero table (pos size p) ring (omega (arith, b, within at (length ring) fits .table))
       (λ k h.
       ap (λ (i : ℕ). getD ring i 0) (omega arith)
-      ∙ o .table-zero (pos size p .head * 16 + k) (omega (arith, b))))
+      ∙ o .zeroed (pos size p .head * 16 + k) (omega (arith, b))))
 
   pub first-like : Like at [] (openedWorld size table driver device ring ids counts held) start
   first-like =

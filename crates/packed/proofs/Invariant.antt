@@ -1,7 +1,7 @@
 -- The invariant: how a world of both ends is like a queue, over unwrapped positions.
 -- Assumes nothing.
 use Prim.Native.Nat.{ℕ, _+_, _-_, _≤_, _<_}
-use mathlib.Core.Path.{_≡_, refl, sym, ap, ap₂, _∙_, subst}
+use mathlib.Core.Path.{_≡_, refl, sym, ap, _∙_, subst}
 use mathlib.Core.Bool.{Bool, true, false, not}
 use mathlib.Core.List.{List, [], _∷_, _++_}
 use native.Mathlib.Omega.{arith}
@@ -126,9 +126,6 @@ module _ (l : Layout) where
     pub big : 0 < size
     big = laid l laid-out .low
 
-    pub small : size ≤ 32768
-    small = laid l laid-out .high
-
     module _ (ret : List Used) (w : World) (q : Queue Checkpoint) (k : Like ret w q) where
       -- the positions' order
       pub free-slots : w .prod .free + tot (ofItems (q .out)) ≡ size
@@ -197,10 +194,26 @@ module _ (l : Layout) where
       with-marks ps ms =
           record { waiting = q .waiting; old = q .old; fresh = q .fresh; done = q .done; out = q .out; promised = ps; polls = q .polls; comps = q .comps; since = q .since; marks = ms }
 
-      pub like-marks :
-          (ps : List ℕ) (ms : List (Mark Checkpoint)) → ((i : ℕ) → ps ≡ i ∷ [] → (0 < w .prod .height) × (topOf (w .prod) (w .ids) ≡ i))
-          → All (CheckOk size (q .comps) (k .cu) (tot (O q))) ms → Like ret w (with-marks ps ms)
-      like-marks ps ms f c =
+      -- the world with other shadows and other bytes
+      abbrev pub with-shadows : ℕ → ℕ → List ℕ → World
+      with-shadows s t r =
+          record {
+            prod = record { layout = w .prod .layout; avail = w .prod .avail; used = w .prod .used; free = w .prod .free; height = w .prod .height; shadow = s };
+            ids = w .ids;
+            counts = w .counts;
+            cons = record { layout = w .cons .layout; avail = w .cons .avail; used = w .cons .used; inflight = w .cons .inflight; shadow = t };
+            held = w .held;
+            ring = r;
+          }
+
+      -- the invariant speaks neither of the shadows nor of bytes in no slot
+      like-with :
+          (s t : ℕ) (r : List ℕ) → length r ≡ length (w .ring) → ((p : ℕ) → view size (l .table) (w .ring) p ≡ view size (l .table) r p)
+          → (ps : List ℕ) (ms : List (Mark Checkpoint)) → ((i : ℕ) → ps ≡ i ∷ [] → (0 < w .prod .height) × (topOf (w .prod) (w .ids) ≡ i))
+          → All (CheckOk size (q .comps) (k .cu) (tot (O q))) ms → Like ret (with-shadows s t r) (with-marks ps ms)
+      like-with s t r n vs ps ms x c =
+          let f = view size (l .table) (w .ring) in
+          let g = view size (l .table) r in
           record {
             pu = k .pu;
             cu = k .cu;
@@ -220,14 +233,14 @@ module _ (l : Layout) where
             c-avail = k .c-avail;
             p-avail = k .p-avail;
             inflight = k .inflight;
-            whole = k .whole;
+            whole = ap (outside l) n ∙ k .whole;
             ids-whole = k .ids-whole;
             counts-whole = k .counts-whole;
             held-whole = k .held-whole;
-            spelled = k .spelled;
-            returned = k .returned;
-            rounds = k .rounds;
-            unused = k .unused;
+            spelled = spells-cong size f g (k .fa) (items (q .fresh) ++ q .waiting) (λ p a b. vs p) (k .spelled);
+            returned = returns-cong size f g (k .pu) ret (λ p a b. vs p) (k .r-pos) (k .returned);
+            rounds = λ p a b. ap (λ (d : Descriptor). has (d .flags) AVAIL) (sym (vs p)) ∙ k .rounds p a b;
+            unused = λ p a b. ap (λ (d : Descriptor). has (d .flags) USED) (sym (vs p)) ∙ k .unused p a b;
             dones-are = k .dones-are;
             fine = k .fine;
             o-pos = k .o-pos;
@@ -240,63 +253,21 @@ module _ (l : Layout) where
             out-occ = k .out-occ;
             out-slots = k .out-slots;
             out-tot = k .out-tot;
-            promise = f;
+            promise = x;
             checks = c;
           }
+
+      pub like-same :
+          (s t : ℕ) (r : List ℕ) → length r ≡ length (w .ring) → ((p : ℕ) → view size (l .table) (w .ring) p ≡ view size (l .table) r p)
+          → Like ret (with-shadows s t r) q
+      like-same s t r n vs = like-with s t r n vs (q .promised) (q .marks) (k .promise) (k .checks)
+
+      pub like-marks :
+          (ps : List ℕ) (ms : List (Mark Checkpoint)) → ((i : ℕ) → ps ≡ i ∷ [] → (0 < w .prod .height) × (topOf (w .prod) (w .ids) ≡ i))
+          → All (CheckOk size (q .comps) (k .cu) (tot (O q))) ms → Like ret w (with-marks ps ms)
+      like-marks ps ms x c = like-with (w .prod .shadow) (w .cons .shadow) (w .ring) refl (λ p. refl) ps ms x c
 
       -- an answer that changes nothing: the queue after it is the same, but for what next_id promised
       pub like-look : (a : Look Checkpoint) → ((i : ℕ) → looking q a ≡ i ∷ [] → (0 < w .prod .height) × (topOf (w .prod) (w .ids) ≡ i)) → Like ret w (next q (said.looked a))
       unfolding next
       like-look a f = like-marks (looking q a) (q .marks) f (k .checks)
-
-      -- a call that changes nothing of what the invariant speaks of: the shadows, and bytes in no slot
-      pub like-same :
-          (v : World) → v .prod .layout ≡ w .prod .layout → v .prod .avail ≡ w .prod .avail → v .prod .used ≡ w .prod .used → v .prod .free ≡ w .prod .free
-          → v .prod .height ≡ w .prod .height → v .cons .layout ≡ w .cons .layout → v .cons .avail ≡ w .cons .avail → v .cons .used ≡ w .cons .used
-          → v .cons .inflight ≡ w .cons .inflight → v .ids ≡ w .ids → v .counts ≡ w .counts → v .held ≡ w .held → length (v .ring) ≡ length (w .ring)
-          → ((p : ℕ) → view size (l .table) (w .ring) p ≡ view size (l .table) (v .ring) p) → Like ret v q
-      like-same v pl pav pus pf ph cl cav cus ci is cs hs rl vs =
-          let f = view size (l .table) (w .ring) in
-          let g = view size (l .table) (v .ring) in
-          record {
-            pu = k .pu;
-            cu = k .cu;
-            fa = k .fa;
-            ca = k .ca;
-            pa = k .pa;
-            cu-is = k .cu-is;
-            fa-is = k .fa-is;
-            ca-is = k .ca-is;
-            pa-is = k .pa-is;
-            room = omega (arith, k .room, pf);
-            begun = k .begun;
-            p-layout = pl ∙ k .p-layout;
-            c-layout = cl ∙ k .c-layout;
-            p-used = pus ∙ k .p-used;
-            c-used = cus ∙ k .c-used;
-            c-avail = cav ∙ k .c-avail;
-            p-avail = pav ∙ k .p-avail;
-            inflight = ci ∙ k .inflight;
-            whole = ap (outside l) rl ∙ k .whole;
-            ids-whole = omega (arith, k .ids-whole, ap length is);
-            counts-whole = omega (arith, k .counts-whole, ap length cs);
-            held-whole = omega (arith, k .held-whole, ap length hs);
-            spelled = spells-cong size f g (k .fa) (items (q .fresh) ++ q .waiting) (λ p a b. vs p) (k .spelled);
-            returned = returns-cong size f g (k .pu) ret (λ p a b. vs p) (k .r-pos) (k .returned);
-            rounds = λ p a b. ap (λ (d : Descriptor). has (d .flags) AVAIL) (sym (vs p)) ∙ k .rounds p a b;
-            unused = λ p a b. ap (λ (d : Descriptor). has (d .flags) USED) (sym (vs p)) ∙ k .unused p a b;
-            dones-are = k .dones-are;
-            fine = k .fine;
-            o-pos = k .o-pos;
-            r-pos = k .r-pos;
-            once = λ y. ap₂ (λ (h : ℕ) (s : List ℕ). occS y (take h s) + (occ y (W q) + (occ y (O q) + occ y (F q)) + occ y (ofUsed ret))) ph is ∙ k .once y;
-            p-nums = λ y h. ap (λ (t : List ℕ). getD t y 0) cs ∙ k .p-nums y h;
-            c-nums = λ y h. ap (λ (t : List ℕ). getD t y 0) hs ∙ k .c-nums y h;
-            heights = omega (arith, k .heights, ph);
-            out-pos = k .out-pos;
-            out-occ = k .out-occ;
-            out-slots = k .out-slots;
-            out-tot = k .out-tot;
-            promise = λ i e. (omega (arith, k .promise i e .0, ph), ap₂ (λ (h : ℕ) (s : List ℕ). getD s (h - 1) 0) ph is ∙ k .promise i e .1);
-            checks = k .checks;
-          }

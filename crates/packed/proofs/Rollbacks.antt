@@ -34,7 +34,7 @@ use Rattle.queue.proofs.Model.{Queue, markOf, next, Undo}
 use Rattle.packed.specs.Machine.{World, saysRolled, saysMarked, afterRolled}
 use Rattle.packed.proofs.Answers.{either-refused, and-true}
 use Rattle.packed.proofs.Position.{pos, view, pos-add, pos-low}
-use Rattle.packed.proofs.Counts.{Used, ofItems, occ, slots, tot, Pos, one, one-le, one-low, hit-same, slots-none, both-tot, both-occ, both-slots, items-tot, items-occ, items-slots}
+use Rattle.packed.proofs.Counts.{Used, ofItems, occ, slots, tot, Pos, one-le, one-low, hit-same, slots-none, both-tot, both-occ, both-slots, items-tot, items-occ, items-slots}
 use Rattle.packed.proofs.Spells.{Spells}
 use Rattle.packed.proofs.Named.{occ-times, none-bad, same-total, own-slots, total-polls, cleared-at}
 use Rattle.packed.proofs.Completes.{occ-slots}

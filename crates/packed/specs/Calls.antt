@@ -1,4 +1,5 @@
--- Every call of both ends but the two resets, with any arguments of their types.
+-- "Any mix of their calls, no reset": every call of both ends but the two resets, with any arguments of their types. The names are the
+-- Rust's, but for the notifications, where they are shorter.
 use Prim.Native.Nat.{ℕ, _^_, _<_}
 use mathlib.Core.List.{List, [], _∷_}
 use mathlib.Core.Bool.{Bool, cond}
@@ -9,7 +10,7 @@ use Rattle.consumer.specs.declared.RingConsumer.{RingConsumer}
 use Rattle.consumer.specs.declared.Checkpoint.{Checkpoint}
 use Rattle.queue.specs.History.{Chain}
 
--- what is asked of a record alone
+-- what is asked of a record alone: its counts, cursors and table
 pub data ProducerQuestion : Type 0 where
   producerNumFree : ProducerQuestion
   producerNumInflight : ProducerQuestion
@@ -29,6 +30,7 @@ pub data ConsumerQuestion : Type 0 where
 
 -- a call by an end that is given its own last record and tables, and the ring's bytes
 pub data Own : Type 0 where
+  -- ---- the producer's
   submitAvailable : Chain → Own
   submitAvailableWithNotify : Chain → Own
   -- address, length, writable
@@ -37,26 +39,30 @@ pub data Own : Type 0 where
   pollUsed : Own
   nextId : Own
   producerAsked : ProducerQuestion → Own
+  -- an old avail cursor
   shouldNotifySince : RingCursor → Own
-  -- the flags that are turned on: ENABLE or DISABLE
+  -- enable_used_notifications, of ENABLE, and disable_used_notifications, of DISABLE
   turnUsed : ℕ → Own
+  -- enable_used_notifications_desc: offset, wrap; and .._for_next
   enableUsedDesc : ℕ → Bool → Own
   enableUsedForNext : Own
-  -- the two outputs
+  -- ---- the consumer's: a poll has two outputs, for addresses and lengths
   pollAvailable : List ℕ → List ℕ → Own
   -- ID, length
   submitUsed : ℕ → ℕ → Own
   submitUsedWithNotify : ℕ → ℕ → Own
   peekAvailable : Own
   pollCheckpoint : Own
+  -- the checkpoint, and the IDs of the polls to undo
   rollbackPolls : Checkpoint → List ℕ → Own
   consumerAsked : ConsumerQuestion → Own
+  -- the same four calls of the consumer, for available notifications
   turnAvail : ℕ → Own
   enableAvailDesc : ℕ → Bool → Own
   enableAvailForNext : Own
 
--- a call given any record, tables and bytes: the producer's with its record, ring, IDs and counts, the consumer's with its record, ring
--- and counts
+-- "Calls refused for bad records or buffers": a call given any record, tables and bytes, the producer's with its record, ring, IDs and counts,
+-- the consumer's with its record, ring and counts
 pub data Foreign : Type 0 where
   producers : RingProducer → List ℕ → List ℕ → List ℕ → Own → Foreign
   consumers : RingConsumer → List ℕ → List ℕ → Own → Foreign
@@ -69,7 +75,7 @@ pub data Call : Type 0 where
 abbrev pub oneOf : ℕ → ℕ → Bool → Chain
 oneOf addr len writable = record { addrs = addr ∷ []; lens = len ∷ []; readable = cond writable 0 1 }
 
--- addresses are numbers of 64 bits and lengths of 32, IDs of 16
+-- what the arguments' types say: addresses are numbers of 64 bits and lengths of 32, IDs of 16
 abbrev pub TypedChain : Chain → Type 0
 TypedChain c = ((i : ℕ) → getD (c .addrs) i 0 < 256 ^ 8) × ((i : ℕ) → getD (c .lens) i 0 < 256 ^ 4)
 

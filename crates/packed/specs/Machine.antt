@@ -61,6 +61,7 @@ consumerValues consumerUsedCursor p = valuesOf (p .used)
 
 -- ---- an event, read off a call's answer, what was handed in with it, and the outputs at exit
 
+-- the answer's value number i
 abbrev pub value : ℕ → Answer → ℕ
 value i a = getD (a .values) i 0
 
@@ -68,6 +69,7 @@ value i a = getD (a .values) i 0
 abbrev pub either : Answer → Event Checkpoint → Event Checkpoint → Event Checkpoint
 either a yes-it no-it = cond (eqb (a .number) 0) yes-it no-it
 
+-- a refusal of this call; whether what was handed in was good
 abbrev pub no : said.Call Checkpoint → Bool → Answer → Event Checkpoint
 no c good a = said.looked (said.refused c good (a .number))
 
@@ -86,7 +88,8 @@ saysNext a = either a (said.looked (said.nexted (value 0 a))) (no said.nextId tr
 abbrev pub saysQuiet : Bool → Answer → Event Checkpoint
 saysQuiet good a = either a (said.looked said.quiet) (no said.other good a)
 
--- "A polled item is read from the answer and the outputs at exit"; outputs are good that have an entry for each slot of the ring
+-- what a poll gave is read from the answer (ID, elements, readables) and the outputs at exit; outputs are good that have an entry for each
+-- slot of the ring
 abbrev pub saysPolled : ℕ → List ℕ → List ℕ → Taken → Event Checkpoint
 saysPolled size outs louts t =
     either (t .answer)
@@ -114,7 +117,7 @@ saysRolled size c js a =
     either a (said.rolled c js)
     (no (said.rollback c js) (ltb (c .avail .head) size && ltb (c .used .head) size) a)
 
--- ---- the producer's calls, by its definitions
+-- ---- what a call leaves: of the producer's
 
 abbrev pub submitsOf : World → Chain → made.Outcome
 submitsOf w c = submitOf (w .prod) (w .ring) (w .ids) (w .counts) (c .addrs) (c .lens) (c .readable)
@@ -128,7 +131,7 @@ afterMade w o = record { prod = o .end; ids = o .ids; counts = o .counts; cons =
 abbrev pub afterUsedTurn : World → made.Changed → World
 afterUsedTurn w o = record { prod = o .end; ids = w .ids; counts = w .counts; cons = w .cons; held = w .held; ring = o .ring }
 
--- ---- the consumer's
+-- of the consumer's
 
 abbrev pub afterTaken : World → Taken → World
 afterTaken w t = record { prod = w .prod; ids = w .ids; counts = w .counts; cons = t .end; held = t .counts; ring = w .ring }
@@ -142,7 +145,8 @@ afterRolled w o = record { prod = w .prod; ids = w .ids; counts = w .counts; con
 abbrev pub afterAvailTurn : World → takenOutcome.Changed → World
 afterAvailTurn w o = record { prod = w .prod; ids = w .ids; counts = w .counts; cons = o .end; held = w .held; ring = o .ring }
 
--- ---- one call: what it says, and the world after it
+-- ---- one call by an end given its own: what it says, and the world after it, both by the definition that its contract cites
+-- (packed/proofs/Tied.antt)
 
 unfoldable pub ownSays : World → Own → Event Checkpoint
 ownSays w (submitAvailable c) = saysSubmitted c (submitsOf w c .answer)
@@ -217,7 +221,7 @@ numberOf (said.marked c) = 0
 numberOf (said.rolled c js) = 0
 numberOf (said.looked l) = numberOfLook l
 
--- "after which the end gets its own last again": the world is as it was. What the call was given it has left as it was, too
+-- any call. Behind a foreign one the end gets its own last again: the world is as it was. What the call was given it has left as it was, too
 -- (packed/proofs/Astray.antt, `astray-leaves`).
 unfoldable pub says : World → Call → Event Checkpoint
 says w (own c) = ownSays w c

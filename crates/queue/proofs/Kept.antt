@@ -31,10 +31,6 @@ abbrev pub nos : List Poll → List ℕ
 nos [] = []
 nos (p ∷ ps) = p .no ∷ nos ps
 
-pub idsOf-items : (ps : List Poll) → idsOf (items ps) ≡ ids ps
-idsOf-items [] = refl
-idsOf-items (p ∷ ps) = ap (λ (l : List ℕ). p .item .id ∷ l) (idsOf-items ps)
-
 pub dids-append : (a b : List Done) → dids (a ++ b) ≡ dids a ++ dids b
 dids-append [] b = refl
 dids-append (d ∷ a) b = ap (λ (l : List ℕ). d .id ∷ l) (dids-append a b)

@@ -2,6 +2,7 @@ pub mod Model
 pub mod Listing
 pub mod Trace
 pub mod Machine
+pub mod Line
 pub mod Ahead
 pub mod Returned
 pub mod Kept

@@ -1,13 +1,15 @@
 -- What a ring owes to the queue, call by call, and what it gets for it: demand 3. A ring is any machine that takes calls.
 -- Assumes nothing.
-use Prim.Native.Nat.{ℕ}
+use Prim.Native.Nat.{ℕ, zero, suc}
+use mathlib.Core.Path.{_≡_, refl}
 use mathlib.Core.List.{List, [], _∷_}
+use lib.ListN.{drop}
 use Rattle.queue.specs.History.{Event, History}
 use Rattle.queue.specs.History.{submitted, polled, completed, reclaimed, marked, rolled, looked}
-use Rattle.queue.specs.Promise.{Undoes, UndoesAll, Asked, Each, Fifo}
+use Rattle.queue.specs.Promise.{Undoes, Asked, Each, Fifo}
 use Rattle.queue.specs.Machine.{Machine, worldOf, historyOf}
-use Rattle.queue.proofs.Model.{Queue, start, next, model, Undo, UndoAll, Ok, AllOk, Grant}
-use Rattle.queue.proofs.Trace.{fifo, undo-of, undo-all-of}
+use Rattle.queue.proofs.Model.{Queue, start, next, model, Undo, Ok, AllOk, Grant}
+use Rattle.queue.proofs.Trace.{fifo, undo-of}
 
 -- what is assumed of an accepted rollback, by the history and by the queue
 pub record Terms (C : Type 0) : Type 1 where
@@ -20,10 +22,6 @@ module _ {C : Type 0} where
   abbrev pub honest : Terms C
   honest = record { Premise = Undoes; Granted = Undo; grants = undo-of }
 
-  -- the same, with no rollback below its checkpoint since
-  abbrev pub standing : Terms C
-  standing = record { Premise = UndoesAll; Granted = UndoAll; grants = undo-all-of }
-
   -- what is asked of an event by the history is granted by the queue
   pub grant : (terms : Terms C) (size : ℕ) (h : History C) → AllOk size h → (e : Event C) → Asked (terms .Premise) h e → Grant (terms .Granted) (model h) e
   grant terms size h o (submitted x) a = tt
@@ -34,7 +32,19 @@ module _ {C : Type 0} where
   grant terms size h o (rolled c js) a = terms .grants size h o c js a
   grant terms size h o (looked l) a = a
 
+  pub each-drop : (P : History C → Event C → Type 0) (n : ℕ) (h : History C) → Each P h → Each P (drop n h)
+  each-drop P zero h a = a
+  each-drop P (suc n) [] a = tt
+  each-drop P (suc n) (e ∷ h) a = each-drop P n h (a .0)
+
   module _ (M : Machine C) (w : M .World) where
+    -- the first calls, without the last n, said the first of what was said
+    pub history-drop : (n : ℕ) (cs : List (M .Call)) → historyOf M w (drop n cs) ≡ drop n (historyOf M w cs)
+    unfolding historyOf
+    history-drop zero cs = refl
+    history-drop (suc n) [] = refl
+    history-drop (suc n) (c ∷ cs) = history-drop n cs
+
     -- what a ring owes: a likeness to the queue that every call keeps, and an answer that the queue allows
     pub record Matches (size : ℕ) (terms : Terms C) : Type 1 where
       pub Like : M .World → Queue C → Type 0

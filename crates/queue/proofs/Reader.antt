@@ -222,12 +222,9 @@ module _ {C : Type 0} where
     outs-are : outs h ≡ these (k .pending) (model h)
     outs-are = rw (pending-is, l .held-is, waiting-is size h ok)
 
-    -- each of them is out; each ID is out as often as it is one of theirs, and at most once
+    -- each of them is out, and each ID at most once
     pub outs-in : All (λ (i : Item). Member i (out h)) (outs h)
     outs-in = rw (outs-are, l .out-is) (k .inside)
-
-    pub outs-count : (y : ℕ) → times y (idsOf (out h)) ≡ times y (idsOf (outs h))
-    outs-count y = rw (outs-are, l .out-is) (k .whole y)
 
     pub outs-once : (y : ℕ) → times y (idsOf (out h)) ≤ 1
     outs-once y = rw (l .out-is) (k .apart y)

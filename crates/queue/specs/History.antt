@@ -1,12 +1,15 @@
 -- A history of calls and answers, and what it says: which chains were published, which polls stand, what was completed and what
--- came back. Nothing of a ring's format is here; the type C of checkpoints is the ring's own.
+-- came back. The producer (VIRTIO's driver) submits chains and gets their completions back by poll_used; the consumer (the device) polls
+-- chains and completes them. Nothing of a ring's format is here; the type C of checkpoints is the ring's own.
 use Prim.Native.Nat.{ℕ, suc, _+_, _-_}
 use mathlib.Core.List.{List, [], _∷_, _++_}
 use mathlib.Core.Bool.{Bool, cond}
 use lib.Dec.{leb, eqb}
 use lib.ListN.{length, take, drop}
 
--- a lent chain: addresses, lengths, and how many of its elements, the first ones, are readable
+-- ---- what is passed
+
+-- a lent chain, a buffer of VIRTIO's: addresses, lengths, and how many of its elements, the first ones, are readable
 pub record Chain : Type 0 where
   pub addrs : List ℕ
   pub lens : List ℕ
@@ -17,20 +20,24 @@ pub record Item : Type 0 where
   pub id : ℕ
   pub chain : Chain
 
--- a completion: as the consumer made it, or as the producer got it
+-- a completion, a used buffer of VIRTIO's: as the consumer made it, or as the producer got it
 pub record Done : Type 0 where
   pub id : ℕ
   pub len : ℕ
 
+-- ---- calls with their answers
+
 -- what was asked in a call that was refused
 pub data Call (C : Type 0) : Type 0 where
+  -- of the producer: a submission, poll_used, next_id
   submit : Chain → Call C
+  reclaim : Call C
+  nextId : Call C
+  -- of the consumer: poll_available, submit_used, rollback_polls
   poll : Call C
   complete : Done → Call C
-  reclaim : Call C
   rollback : C → List ℕ → Call C
-  nextId : Call C
-  -- every other call
+  -- every other call of either
   other : Call C
 
 -- an answer that changes nothing of what a history speaks of
@@ -40,16 +47,19 @@ pub data Look (C : Type 0) : Type 0 where
   peeked : Bool → Look C
   -- any other question, and a notification turned or armed
   quiet : Look C
-  -- a call by an end given its own last again, refused with this number; whether all else that was handed in with the call was good (a
-  -- ring says what that is: slices of equal length, outputs long enough, a checkpoint that can be one)
+  -- a call by an end given its own last record, tables and bytes, refused with this number; whether all else that was handed in with the
+  -- call was good (a ring says what that is: slices of equal length, outputs long enough, a checkpoint that can be one)
   refused : Call C → Bool → ℕ → Look C
   -- a call given what is not the end's own, answered with this number (0 is success)
   astray : ℕ → Look C
 
 -- one call with its answer
 pub data Event (C : Type 0) : Type 0 where
+  -- a submission was accepted, and got this ID
   submitted : Item → Event C
+  -- a poll gave this
   polled : Item → Event C
+  -- submit_used was accepted
   completed : Done → Event C
   -- poll_used returned this completion
   reclaimed : Done → Event C
@@ -57,21 +67,29 @@ pub data Event (C : Type 0) : Type 0 where
   marked : C → Event C
   -- a rollback to this checkpoint, with this list, was accepted
   rolled : C → List ℕ → Event C
+  -- every other answer
   looked : Look C → Event C
 
 -- THE LATEST EVENT FIRST: `e ∷ h` is h and then e
 abbrev pub History : Type 0 → Type 0
 History C = List (Event C)
 
--- the slots of a chain: one for each element
+-- ---- lists of chains and of polls
+
+-- the slots of a chain, one for each element, and of some chains
 abbrev pub slotsOf : Chain → ℕ
 slotsOf c = length (c .addrs)
+
+abbrev pub slotsIn : List Item → ℕ
+slotsIn [] = 0
+slotsIn (i ∷ is) = slotsOf (i .chain) + slotsIn is
 
 -- a poll with its number: the first poll of a history that gave a chain is number 1
 pub record Poll : Type 0 where
   pub no : ℕ
   pub item : Item
 
+-- what they gave, and the IDs
 abbrev pub items : List Poll → List Item
 items [] = []
 items (p ∷ ps) = p .item ∷ items ps
@@ -93,12 +111,12 @@ after k (p ∷ ps) = cond (leb (p .no) k) (after k ps) (p ∷ ps)
 abbrev pub butLast : {A : Type 0} → ℕ → List A → List A
 butLast n l = take (length l - n) l
 
--- without the one of that ID
+-- without the first of that ID
 abbrev pub without : ℕ → List Poll → List Poll
 without x [] = []
 without x (p ∷ ps) = cond (eqb (p .item .id) x) ps (p ∷ without x ps)
 
--- the one of that ID, if there is one
+-- the first of that ID, if there is one
 abbrev pub ofId : ℕ → List Poll → List Poll
 ofId x [] = []
 ofId x (p ∷ ps) = cond (eqb (p .item .id) x) (p ∷ []) (ofId x ps)
@@ -112,14 +130,10 @@ abbrev pub times : ℕ → List ℕ → ℕ
 times y [] = 0
 times y (x ∷ xs) = cond (eqb x y) 1 0 + times y xs
 
--- the slots of some chains
-abbrev pub slotsIn : List Item → ℕ
-slotsIn [] = 0
-slotsIn (i ∷ is) = slotsOf (i .chain) + slotsIn is
+-- ---- what a history says
 
 module _ {C : Type 0} where
-  -- the chains published, the polls that gave one, the completions, and the completions that the producer got back, each the oldest
-  -- first
+  -- the chains published, the oldest first
   unfoldable pub pubs : History C → List Item
   pubs [] = []
   pubs (submitted x ∷ h) = pubs h ++ (x ∷ [])
@@ -130,6 +144,7 @@ module _ {C : Type 0} where
   pubs (rolled c js ∷ h) = pubs h
   pubs (looked l ∷ h) = pubs h
 
+  -- how many polls gave a chain
   unfoldable pub polls : History C → ℕ
   polls [] = 0
   polls (submitted x ∷ h) = polls h
@@ -140,6 +155,7 @@ module _ {C : Type 0} where
   polls (rolled c js ∷ h) = polls h
   polls (looked l ∷ h) = polls h
 
+  -- the completions, the oldest first
   unfoldable pub comps : History C → List Done
   comps [] = []
   comps (submitted x ∷ h) = comps h
@@ -150,6 +166,7 @@ module _ {C : Type 0} where
   comps (rolled c js ∷ h) = comps h
   comps (looked l ∷ h) = comps h
 
+  -- the completions that poll_used returned, in that order
   unfoldable pub reclaims : History C → List Done
   reclaims [] = []
   reclaims (submitted x ∷ h) = reclaims h

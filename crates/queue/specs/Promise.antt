@@ -3,7 +3,8 @@
 -- and tables, and each rollback using a checkpoint that its end took and undoing every poll since, with no completion between. Then a poll
 -- returns the oldest published chain whose polls, if any, were all rolled back, element for element, and blocks only when none waits. With k
 -- ahead it arrives at poll k+1 if nothing is rolled back meanwhile. Completions reach the producer the same way: in order, once each, with
--- their own ID and length. Calls refused for bad records or buffers aren't counted." Other quotations below are what the product adds to it.
+-- their own ID and length. Calls refused for bad records or buffers aren't counted." Other quotations below are what the product adds to it
+-- (docs/CLAIMS.md has both, each with its theorem).
 use Prim.Native.Nat.{ℕ, _+_, _≤_, _<_}
 use mathlib.Core.Path.{_≡_}
 use mathlib.Core.Logic.{_≢_, _⊎_}
@@ -52,7 +53,8 @@ module _ {C : Type 0} where
   AskedLook (refused c g n) = Unit
   AskedLook (astray n) = (n ≡ 7) ⊎ (n ≡ 8)
 
-  -- what is assumed of an accepted rollback is a parameter: a ring that tests more needs less
+  -- what is asked before an event. Of an accepted rollback it is a parameter, R: `Undoes` for the packed ring; a ring that tests more itself
+  -- can ask for less
   abbrev pub Asked : (History C → C → List ℕ → Type 0) → History C → Event C → Type 0
   Asked R h (submitted x) = Unit
   Asked R h (polled x) = Unit
@@ -82,7 +84,7 @@ module _ {C : Type 0} where
   RightBadNo h other n = n ≡ 7
 
   module _ (size : ℕ) where
-    -- a refusal of a call that was given the end's own and whose slices, outputs, cursors and checkpoints were good
+    -- a refusal, with n, of a call that was given the end's own and whose slices, outputs, cursors and checkpoints were good
     abbrev pub RightNo : History C → Call C → ℕ → Type 0
     -- "refused only with 1, or with 3 exactly when the free slots .. are fewer than its elements, never 4 or 5"
     RightNo h (submit c) n =
@@ -91,7 +93,7 @@ module _ {C : Type 0} where
     RightNo h poll n = (n ≡ 3) × (pubs h ≡ items (lives h))
     -- "a completion of a held chain is accepted, and of nothing else"
     RightNo h (complete d) n = (n ≡ 5) × (Has (d .id) (held h) → ⊥)
-    -- every completion was given back
+    -- "Completions reach the producer the same way": blocked only when every completion was given back
     RightNo h reclaim n = (n ≡ 3) × (comps h ≡ reclaims h)
     -- "a rollback that meets the premise, with no rollback below its checkpoint since, is accepted"
     RightNo h (rollback c js) n = (n ≡ 9) × (UndoesAll h c js → ⊥)
@@ -100,6 +102,7 @@ module _ {C : Type 0} where
     -- nothing else is ever refused
     RightNo h other n = ⊥
 
+    -- an answer that changes nothing
     abbrev pub RightLook : History C → Look C → Type 0
     -- an ID that is free; the one that was answered before, if nothing was submitted or returned since
     RightLook h (nexted i) = (i < size) × (Unlike i (out h) × ((length (out h) < size) × ((j : ℕ) → promised h ≡ j ∷ [] → i ≡ j)))
@@ -110,6 +113,7 @@ module _ {C : Type 0} where
     RightLook h (refused c false n) = RightBadNo h c n
     RightLook h (astray n) = Unit
 
+    -- an event after this history
     abbrev pub Right : History C → Event C → Type 0
     -- "an ID given is the ID of no chain whose completion poll_used has not yet returned"; its slices were good, and there were free slots;
     -- "next_id is the ID that the next submission gets"
@@ -122,11 +126,12 @@ module _ {C : Type 0} where
     -- "a poll returns the oldest published chain whose polls, if any, were all rolled back, element for element": the polls that stand
     -- gave the first chains published, in order and each once, and this is the next one
     Right h (polled x) = (later : List Item) × (pubs h ≡ items (lives h) ++ (x ∷ later))
+    -- "a completion of a held chain is accepted, and of nothing else"
     Right h (completed d) = Has (d .id) (held h)
     -- "Completions reach the producer the same way: in order, once each, with their own ID and length."
     Right h (reclaimed d) = (later : List Done) × (comps h ≡ reclaims h ++ (d ∷ later))
     Right h (marked c) = Unit
-    -- the premise again, which has content where more was assumed
+    -- the premise itself: it says something where the ring's callers were asked for less
     Right h (rolled c js) = Undoes h c js
     Right h (looked l) = RightLook h l
 

@@ -1,11 +1,12 @@
--- The words of the sentences about histories: which calls count, which publication a poll is of, which submission a completion is of.
+-- The sentences of demand 3 that name calls and publications by their numbers: which calls count, which publication a poll is of, which
+-- submission a completion is of. They follow from `Fifo` (packed/proofs/Promises.antt names each).
 use Prim.Native.Nat.{ℕ, zero, suc, _<_}
 use mathlib.Core.Path.{_≡_}
 use mathlib.Core.List.{List, [], _∷_, _++_}
 use mathlib.Core.Bool.{Bool, true, false, cond, _||_}
 use lib.Dec.{eqb}
 use lib.ListN.{length}
-use Rattle.queue.specs.History.{Item, Done, Call, Look, Event, History, Poll, butLast, times, pubs, comps, reclaims, lives, finished}
+use Rattle.queue.specs.History.{Item, Done, Call, Event, History, Poll, butLast, times, pubs, comps, reclaims, lives, finished}
 use Rattle.queue.specs.History.{submit, poll, complete, reclaim, rollback, nextId, other, nexted, peeked, quiet, refused, astray, submitted, polled, completed, reclaimed, marked, rolled, looked}
 
 -- of each of a list
@@ -21,6 +22,7 @@ At (y ∷ ys) (suc j) x = At ys j x
 
 -- ---- which publication a poll is of: the latest one that got its ID. The first publication of a history is number 0.
 
+-- whether an item of that ID is in the list, and the place of the last one
 abbrev pub hasb : ℕ → List Item → Bool
 hasb x [] = false
 hasb x (y ∷ ys) = eqb (y .id) x || hasb x ys
@@ -29,27 +31,15 @@ abbrev pub latest : ℕ → List Item → ℕ
 latest x [] = 0
 latest x (y ∷ ys) = cond (hasb x ys) (suc (latest x ys)) 0
 
+-- how many of a list are such
+abbrev pub counted : {A : Type 0} → (A → Bool) → List A → ℕ
+counted P [] = 0
+counted P (x ∷ xs) = cond (P x) (suc (counted P xs)) (counted P xs)
+
 module _ {C : Type 0} where
-  -- ---- which events are polls that count
+  -- ---- which calls count: "Calls refused for bad records or buffers aren't counted"
 
-  abbrev pub pollCall : Call C → Bool → Bool
-  pollCall (submit c) good = false
-  pollCall poll good = good
-  pollCall (complete d) good = false
-  pollCall reclaim good = false
-  pollCall (rollback c js) good = false
-  pollCall nextId good = false
-  pollCall other good = false
-
-  abbrev pub pollLook : Look C → Bool
-  pollLook (nexted i) = false
-  pollLook (peeked b) = false
-  pollLook quiet = false
-  pollLook (refused c good n) = pollCall c good
-  pollLook (astray n) = false
-
-  -- "Calls refused for bad records or buffers aren't counted": a poll counts if it gave a chain, or was refused though all that it was
-  -- handed was good
+  -- a poll counts if it gave a chain, or was refused though all that it was handed was good
   abbrev pub isPoll : Event C → Bool
   isPoll (submitted x) = false
   isPoll (polled x) = true
@@ -57,14 +47,46 @@ module _ {C : Type 0} where
   isPoll (reclaimed d) = false
   isPoll (marked c) = false
   isPoll (rolled c js) = false
-  isPoll (looked l) = pollLook l
+  isPoll (looked (nexted i)) = false
+  isPoll (looked (peeked b)) = false
+  isPoll (looked quiet) = false
+  isPoll (looked (refused (submit c) good n)) = false
+  isPoll (looked (refused poll good n)) = good
+  isPoll (looked (refused (complete d) good n)) = false
+  isPoll (looked (refused reclaim good n)) = false
+  isPoll (looked (refused (rollback c js) good n)) = false
+  isPoll (looked (refused nextId good n)) = false
+  isPoll (looked (refused other good n)) = false
+  isPoll (looked (astray n)) = false
 
-  -- the polls of a stretch
+  -- a poll_used counts if it returned a completion, or was refused though all that it was handed was good
+  abbrev pub isReclaim : Event C → Bool
+  isReclaim (submitted x) = false
+  isReclaim (polled x) = false
+  isReclaim (completed d) = false
+  isReclaim (reclaimed d) = true
+  isReclaim (marked c) = false
+  isReclaim (rolled c js) = false
+  isReclaim (looked (nexted i)) = false
+  isReclaim (looked (peeked b)) = false
+  isReclaim (looked quiet) = false
+  isReclaim (looked (refused (submit c) good n)) = false
+  isReclaim (looked (refused poll good n)) = false
+  isReclaim (looked (refused (complete d) good n)) = false
+  isReclaim (looked (refused reclaim good n)) = good
+  isReclaim (looked (refused (rollback c js) good n)) = false
+  isReclaim (looked (refused nextId good n)) = false
+  isReclaim (looked (refused other good n)) = false
+  isReclaim (looked (astray n)) = false
+
+  -- the polls of a stretch that count, and the polls of the producer
   abbrev pub pollCalls : History C → ℕ
-  pollCalls [] = 0
-  pollCalls (e ∷ g) = cond (isPoll e) (suc (pollCalls g)) (pollCalls g)
+  pollCalls g = counted isPoll g
 
-  -- no poll was rolled back: no rollback, or one of nothing
+  abbrev pub reclaimCalls : History C → ℕ
+  reclaimCalls g = counted isReclaim g
+
+  -- "if nothing is rolled back meanwhile": no rollback, or one of no polls
   abbrev pub Still : Event C → Type 0
   Still (submitted x) = Unit
   Still (polled x) = Unit
@@ -74,43 +96,9 @@ module _ {C : Type 0} where
   Still (rolled c js) = js ≡ []
   Still (looked l) = Unit
 
-  -- ---- which events are polls of the producer that count
-
-  abbrev pub reclaimCall : Call C → Bool → Bool
-  reclaimCall (submit c) good = false
-  reclaimCall poll good = false
-  reclaimCall (complete d) good = false
-  reclaimCall reclaim good = good
-  reclaimCall (rollback c js) good = false
-  reclaimCall nextId good = false
-  reclaimCall other good = false
-
-  abbrev pub reclaimLook : Look C → Bool
-  reclaimLook (nexted i) = false
-  reclaimLook (peeked b) = false
-  reclaimLook quiet = false
-  reclaimLook (refused c good n) = reclaimCall c good
-  reclaimLook (astray n) = false
-
-  -- "Calls refused for bad records or buffers aren't counted": a poll_used counts if it returned a completion, or was refused though all
-  -- that it was handed was good
-  abbrev pub isReclaim : Event C → Bool
-  isReclaim (submitted x) = false
-  isReclaim (polled x) = false
-  isReclaim (completed d) = false
-  isReclaim (reclaimed d) = true
-  isReclaim (marked c) = false
-  isReclaim (rolled c js) = false
-  isReclaim (looked l) = reclaimLook l
-
-  -- the producer's polls of a stretch
-  abbrev pub reclaimCalls : History C → ℕ
-  reclaimCalls [] = 0
-  reclaimCalls (e ∷ g) = cond (isReclaim e) (suc (reclaimCalls g)) (reclaimCalls g)
-
   -- ---- the sentence by the numbers of publications
 
-  -- the publications that the standing polls are of
+  -- the publications that the standing polls are of, by their numbers
   unfoldable pub sources : History C → List ℕ
   sources [] = []
   sources (submitted x ∷ h) = sources h
@@ -136,8 +124,8 @@ module _ {C : Type 0} where
   LiterallyNo h nextId good n = Unit
   LiterallyNo h other good n = Unit
 
-  -- "A poll returns the oldest published chain whose polls, if any, were all rolled back": its publication gave this very chain, no poll
-  -- of it stands, and of each older one a poll does. "It blocks only when none waits": of each publication a poll stands.
+  -- "a poll returns the oldest published chain whose polls, if any, were all rolled back": its publication gave this very chain, no poll
+  -- of it stands, and of each older one a poll does. "and blocks only when none waits": of each publication a poll stands.
   abbrev pub Literally : History C → Event C → Type 0
   Literally h (submitted x) = Unit
   Literally h (polled x) =
@@ -152,7 +140,7 @@ module _ {C : Type 0} where
   Literally h (looked (refused c good n)) = LiterallyNo h c good n
   Literally h (looked (astray n)) = Unit
 
-  -- the j-th completion that poll_used returned is of the p-th submission
+  -- "completions meet their own submissions": the j-th completion that poll_used returned is of the p-th submission, both counted from 0
   pub record Own (h : History C) (j p : ℕ) : Type 0 where
     pub done : Done
     pub poll : Poll

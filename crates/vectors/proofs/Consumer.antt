@@ -106,6 +106,11 @@ holding = record { layout = layout 4 0 64 68; avail = at 2 true; used = at 0 tru
 pub held : List ℕ
 held = 0 ∷ 0 ∷ 0 ∷ 2 ∷ []
 
+-- what is unfolded to compute over bytes: these values, and the definitions that the contracts cite
+computing : Unit {0}
+unfolding fresh zeros none addrs lens holding held four opened.freshOf freshOf bytesOf wordAt putOf getOf step steps isAvail isUsed encodeOf decodeOf markAvail markUsed apart badLayout outside badChain slotOf slotPut upFrom lookOf walkOf slotsFrom named badIds totalOf clearedOf made.badRecord made.badLent submitRefusal elementOf putTails putChain takenOf submittedOf submitOf badRecord badLent headRefusal walkRefusal pollRefusal pastOf polls.takenOf pollOf completeRefusal completedOf completeOf handedRefusal staleOf rollbackRefusal backOf rollbackOf reclaims.pollRefusal reclaims.freedOf reclaims.polledOf reclaims.pollOf
+computing = tt
+
 pub record Exchange : Type 0 where
   pub gets-id-3 : first-sent .answer ≡ done (3 ∷ [])
   pub gets-id-2 : sent .answer ≡ done (2 ∷ [])
@@ -133,7 +138,7 @@ pub record Exchange : Type 0 where
   pub returned-once : no-more .answer ≡ refused 3
 
 pub exchange : Exchange
-unfolding first-sent sent first second third undone again both complete twice-complete back no-more fresh zeros none addrs lens holding held four opened.freshOf freshOf bytesOf wordAt putOf getOf step steps isAvail isUsed encodeOf decodeOf markAvail markUsed apart badLayout outside badChain slotOf slotPut upFrom lookOf walkOf slotsFrom named badIds totalOf clearedOf made.badRecord made.badLent submitRefusal elementOf putTails putChain takenOf submittedOf submitOf badRecord badLent headRefusal walkRefusal pollRefusal pastOf polls.takenOf pollOf completeRefusal completedOf completeOf handedRefusal staleOf rollbackRefusal backOf rollbackOf reclaims.pollRefusal reclaims.freedOf reclaims.polledOf reclaims.pollOf
+unfolding computing first-sent sent first second third undone again both complete twice-complete back no-more
 exchange =
     record {
       gets-id-3 = refl;
@@ -166,7 +171,7 @@ unfolding openOf badLayout apart outside
 may-open = open-ready 4 0 64 68 (replicate 72 0) (replicate 5 9) refl
 
 pub may-poll : PollReady fresh (first-sent .ring) none none none
-unfolding fresh zeros none addrs lens first-sent four opened.freshOf freshOf bytesOf wordAt putOf getOf step isAvail encodeOf decodeOf markAvail apart badLayout outside badChain slotOf slotPut upFrom lookOf walkOf made.badRecord made.badLent submitRefusal elementOf putTails putChain takenOf submittedOf submitOf badRecord badLent headRefusal walkRefusal pollRefusal
+unfolding computing first-sent
 may-poll = poll-ready fresh (first-sent .ring) none none none refl
 
 pub may-complete : CompleteReady holding 72 3 held
@@ -201,5 +206,5 @@ pub record Otherwise : Type 0 where
   pub seven-first : pollOf (record { layout = layout 4 0 64 68; avail = at 4 true; used = at 0 true; inflight = 0; shadow = 0 }) [] [] [] [] .answer ≡ refused 7
 
 pub otherwise : Otherwise
-unfolding indirect fresh zeros none addrs lens holding held four opened.freshOf freshOf bytesOf wordAt putOf getOf step steps isAvail encodeOf decodeOf markAvail apart badLayout outside badChain slotOf slotPut upFrom lookOf walkOf slotsFrom named badIds totalOf clearedOf made.badRecord made.badLent submitRefusal elementOf putTails putChain takenOf submittedOf submitOf badRecord badLent headRefusal walkRefusal pollRefusal pastOf polls.takenOf pollOf handedRefusal staleOf rollbackRefusal backOf rollbackOf
+unfolding computing indirect
 otherwise = record { blocked-first = refl; then-bad = refl; twice = refl; seven-first = refl }

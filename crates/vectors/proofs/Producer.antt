@@ -1,11 +1,10 @@
 -- The producer's calls at values where they are not refused: what their laws ask can be met.
 -- Assumes nothing.
-use Prim.Native.Nat.{ℕ}
 use mathlib.Core.Path.{_≡_, refl}
-use mathlib.Core.List.{List, [], _∷_}
+use mathlib.Core.List.{[], _∷_}
+use mathlib.Core.Bool.{true}
 use lib.ListN.{replicate}
 use Rattle.cursor.specs.Cursor.{at}
-use mathlib.Core.Bool.{true}
 use Rattle.desc.specs.declared.Descriptor.{Descriptor}
 use Rattle.desc.specs.Flags.{isUsed}
 use Rattle.desc.specs.Desc.{descriptor}

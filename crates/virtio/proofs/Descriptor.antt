@@ -1,10 +1,9 @@
 -- The descriptor, for writing and for reading (VIRTIO 1.1, 2.7.13).
 -- Assumes nothing.
-use Prim.Native.Nat.{ℕ, _<_}
+use Prim.Native.Nat.{ℕ}
 use mathlib.Core.Path.{_≡_, sym, _∙_, ap, ap₂}
 use mathlib.Core.List.{List, _++_, append-nil}
 use lib.ListN.{length}
-use Rattle.base.specs.Bytes.{bytesOf, wordAt}
 use Rattle.base.proofs.Words.{Bytes, word-below}
 use Rattle.desc.specs.declared.Descriptor.{Descriptor}
 use Rattle.desc.specs.Desc.{encodeOf, decodeOf}

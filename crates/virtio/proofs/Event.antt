@@ -8,7 +8,7 @@ use native.Mathlib.Omega.{arith}
 use lib.ListN.{length}
 use lib.Dec.{eqb}
 use borrow.Author.Tests.{eq-eqb, ne-eqb}
-use Rattle.base.specs.Bytes.{bytesOf, wordAt}
+use Rattle.base.specs.Bytes.{bytesOf}
 use Rattle.base.proofs.Tests.{by-eq}
 use Rattle.base.proofs.Words.{Bytes, word-below}
 use Rattle.event.specs.declared.EventSuppression.{EventSuppression}

@@ -60,7 +60,7 @@ RING-EVENT-FLAGS-DESC = 2
 abbrev pub bitAt : ℕ → ℕ → Bool
 bitAt k flags = eqb (flags / 2 ^ k % 2) 1
 
--- 2.7.1 and 2.7.13, the flags' bits
+-- the flags' bits: NEXT (2.7.6), WRITE (2.7.3), INDIRECT (2.7.7), AVAIL and USED (2.7.1)
 abbrev pub NEXT-BIT : ℕ
 NEXT-BIT = 0
 
@@ -86,6 +86,6 @@ pub record Used (flags : ℕ) (w : Bool) : Type 0 where
   pub avail : bitAt AVAIL-BIT flags ≡ w
   pub used : bitAt USED-BIT flags ≡ w
 
--- two flags words that differ in AVAIL and USED at most
+-- 2.7.1: marking a descriptor is no matter of its other flags: two flags words that differ in AVAIL and USED at most
 abbrev pub SameOthers : ℕ → ℕ → Type 0
 SameOthers f g = (k : ℕ) → (k ≡ AVAIL-BIT → ⊥) → (k ≡ USED-BIT → ⊥) → bitAt k f ≡ bitAt k g

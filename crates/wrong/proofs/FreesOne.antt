@@ -12,8 +12,9 @@ use Rattle.consumer.specs.declared.Checkpoint.{Checkpoint}
 use Rattle.queue.specs.History.{Event, History, out}
 use Rattle.queue.specs.History as said
 use Rattle.queue.specs.Promise.{Right}
-use Rattle.wrong.proofs.Ring.{Ring, real, withReclaim, Demand}
-use Rattle.wrong.proofs.Calls.{both, item, done, submit-both, poll, complete-1, reclaim, computing, as-real, Broken, refuted}
+use Rattle.history.proofs.Ends.{item, done}
+use Rattle.wrong.proofs.Ring.{Ring, real, withReclaim}
+use Rattle.wrong.proofs.Calls.{both, submit-both, poll, complete-1, reclaim, computing, Broken, broken}
 
 -- THE WRONG RING: behind a completion that poll_used found, the record has one slot more free and its cursor moved by one, whatever the
 -- chain's count
@@ -39,16 +40,4 @@ all-free (inr f) = omega arith
 
 pub frees-one-broken : Broken frees-one
 unfolding computing
-frees-one-broken =
-    record {
-      calls = submit-both ∷ reclaim ∷ complete-1 ∷ poll ∷ submit-both ∷ [];
-      before = returned;
-      event = no-room;
-      computed = refl;
-      meets = (((((tt, tt), tt), tt), tt), tt);
-      right-before = as-real (reclaim ∷ complete-1 ∷ poll ∷ submit-both ∷ []) returned refl ((((tt, tt), tt), tt), tt);
-      wrong = all-free;
-    }
-
-pub frees-one-wrong : Demand frees-one → ⊥
-frees-one-wrong = refuted frees-one frees-one-broken
+frees-one-broken = broken frees-one submit-both (reclaim ∷ complete-1 ∷ poll ∷ submit-both ∷ []) returned no-room tt refl refl all-free

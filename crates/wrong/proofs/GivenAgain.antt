@@ -10,8 +10,9 @@ use Rattle.consumer.specs.declared.Checkpoint.{Checkpoint}
 use Rattle.queue.specs.History.{Event, History, out}
 use Rattle.queue.specs.History as said
 use Rattle.queue.specs.Promise.{Right}
-use Rattle.wrong.proofs.Ring.{Ring, real, withReclaim, Demand}
-use Rattle.wrong.proofs.Calls.{a, b, item, done, submit-a, submit-b, poll, complete-1, reclaim, computing, as-real, Broken, refuted}
+use Rattle.history.proofs.Ends.{item, done}
+use Rattle.wrong.proofs.Ring.{Ring, real, withReclaim}
+use Rattle.wrong.proofs.Calls.{a, b, submit-a, submit-b, poll, complete-1, reclaim, computing, Broken, broken}
 
 -- THE WRONG RING: poll_used answers the completion that it found, but gives free the ID that was given last: it stays where it stood on
 -- the stack, and its count is cleared
@@ -38,16 +39,4 @@ still-out f = f .1 .0 .0 refl
 
 pub frees-last-broken : Broken frees-last
 unfolding computing
-frees-last-broken =
-    record {
-      calls = submit-a ∷ reclaim ∷ complete-1 ∷ poll ∷ submit-b ∷ submit-a ∷ [];
-      before = one-out;
-      event = again;
-      computed = refl;
-      meets = ((((((tt, tt), tt), tt), tt), tt), tt);
-      right-before = as-real (reclaim ∷ complete-1 ∷ poll ∷ submit-b ∷ submit-a ∷ []) one-out refl (((((tt, tt), tt), tt), tt), tt);
-      wrong = still-out;
-    }
-
-pub frees-last-wrong : Demand frees-last → ⊥
-frees-last-wrong = refuted frees-last frees-last-broken
+frees-last-broken = broken frees-last submit-a (reclaim ∷ complete-1 ∷ poll ∷ submit-b ∷ submit-a ∷ []) one-out again tt refl refl still-out

@@ -1,7 +1,6 @@
 pub mod Ring
 pub mod Calls
-pub mod Blocks
-pub mod Sevens
+pub mod Refuses
 pub mod SameId
 pub mod FreesOne
 pub mod WrapLate

@@ -19,8 +19,9 @@ use Rattle.queue.specs.History.{Chain, Item, Event, History, slotsIn, pubs, liv
 use Rattle.queue.specs.History as said
 use Rattle.queue.specs.Promise.{Right}
 use Rattle.packed.specs.Machine.{World}
-use Rattle.wrong.proofs.Ring.{Ring, real, withSubmit, Demand}
-use Rattle.wrong.proofs.Calls.{a, both, item, submit-a, submit-both, poll, computing, as-real, Broken, refuted}
+use Rattle.history.proofs.Ends.{item, chain}
+use Rattle.wrong.proofs.Ring.{Ring, real, withSubmit}
+use Rattle.wrong.proofs.Calls.{a, both, submit-a, submit-both, poll, computing, Broken, broken}
 
 abbrev nexted : Descriptor → Descriptor
 nexted d = descriptor (d .addr) (d .len) (d .id) (d .flags + NEXT)
@@ -51,19 +52,7 @@ not-three f = omega arith
 
 pub next-on-last-broken : Broken next-on-last
 unfolding computing
-next-on-last-broken =
-    record {
-      calls = poll ∷ submit-both ∷ [];
-      before = fills;
-      event = bad-chain;
-      computed = refl;
-      meets = ((tt, tt), tt);
-      right-before = as-real (submit-both ∷ []) fills refl (tt, tt);
-      wrong = not-three;
-    }
-
-pub next-on-last-wrong : Demand next-on-last → ⊥
-next-on-last-wrong = refuted next-on-last next-on-last-broken
+next-on-last-broken = broken next-on-last poll (submit-both ∷ []) fills bad-chain tt refl refl not-three
 
 -- ---- the same ring with a chain of one element: the poll gives two, the second out of a slot that was never written, against "element
 -- for element"
@@ -72,7 +61,7 @@ abbrev waits : History Checkpoint
 waits = said.submitted (item 1 a) ∷ []
 
 abbrev longer : Event Checkpoint
-longer = said.polled (item 1 (record { addrs = 4096 ∷ 0 ∷ []; lens = 16 ∷ 0 ∷ []; readable = 2 }))
+longer = said.polled (item 1 (chain (4096 ∷ 0 ∷ []) (16 ∷ 0 ∷ []) 2))
 
 not-its-elements : Right 2 waits longer → ⊥
 unfolding pubs lives
@@ -80,13 +69,4 @@ not-its-elements f = omega (arith, ap (λ (l : List Item). slotsIn (take 1 l)) (
 
 pub longer-broken : Broken next-on-last
 unfolding computing
-longer-broken =
-    record {
-      calls = poll ∷ submit-a ∷ [];
-      before = waits;
-      event = longer;
-      computed = refl;
-      meets = ((tt, tt), tt);
-      right-before = as-real (submit-a ∷ []) waits refl (tt, tt);
-      wrong = not-its-elements;
-    }
+longer-broken = broken next-on-last poll (submit-a ∷ []) waits longer tt refl refl not-its-elements

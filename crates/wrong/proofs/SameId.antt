@@ -9,12 +9,13 @@ use Rattle.consumer.specs.declared.Checkpoint.{Checkpoint}
 use Rattle.queue.specs.History.{Event, History, out, promised}
 use Rattle.queue.specs.History as said
 use Rattle.queue.specs.Promise.{Right, Fifo}
-use Rattle.wrong.proofs.Ring.{Ring, withSubmit, Demand}
-use Rattle.wrong.proofs.Calls.{a, b, item, submit-a, submit-b, computing, Broken, refuted}
+use Rattle.history.proofs.Ends.{item}
+use Rattle.wrong.proofs.Ring.{Ring, withSubmit}
+use Rattle.wrong.proofs.Calls.{a, b, submit-a, submit-b, computing, Broken}
 
 -- THE WRONG RING: a submission is the real one over a stack of zeros, with no count that could refuse the ID
-abbrev pub zeros : Ring
-zeros =
+abbrev pub same-id : Ring
+same-id =
     withSubmit (λ w c.
     submitOf (w .prod) (w .ring) (replicate (w .prod .layout .size) 0) (replicate (w .prod .layout .size) 0) (c .addrs) (c .lens) (c .readable))
 
@@ -33,9 +34,9 @@ same : Right 2 one-out again → ⊥
 unfolding out
 same f = f .1 .0 .0 refl
 
-pub zeros-broken : Broken zeros
+pub same-id-broken : Broken same-id
 unfolding computing
-zeros-broken =
+same-id-broken =
     record {
       calls = submit-b ∷ submit-a ∷ [];
       before = one-out;
@@ -45,6 +46,3 @@ zeros-broken =
       right-before = first-right;
       wrong = same;
     }
-
-pub zeros-wrong : Demand zeros → ⊥
-zeros-wrong = refuted zeros zeros-broken

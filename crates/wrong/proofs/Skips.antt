@@ -1,5 +1,6 @@
 -- A poll that skips: "a poll returns the oldest published chain whose polls, if any, were all rolled back" is broken.
 -- Assumes nothing.
+use Prim.Native.Nat.{ℕ}
 use mathlib.Core.Path.{refl, ap}
 use mathlib.Core.List.{List, [], _∷_}
 use native.Mathlib.Omega.{arith}
@@ -10,8 +11,9 @@ use Rattle.consumer.specs.Poll.{pollOf}
 use Rattle.queue.specs.History.{Item, Event, History, pubs, lives}
 use Rattle.queue.specs.History as said
 use Rattle.queue.specs.Promise.{Right}
-use Rattle.wrong.proofs.Ring.{Ring, real, withPoll, Demand}
-use Rattle.wrong.proofs.Calls.{a, b, item, submit-a, submit-b, poll, computing, as-real, Broken, refuted, firstId}
+use Rattle.history.proofs.Ends.{item}
+use Rattle.wrong.proofs.Ring.{Ring, real, withPoll}
+use Rattle.wrong.proofs.Calls.{a, b, submit-a, submit-b, poll, computing, Broken, broken}
 
 -- a consumer whose avail cursor is there
 abbrev movedTo : RingConsumer → RingCursor → RingConsumer
@@ -29,22 +31,15 @@ two-wait = said.submitted (item 0 b) ∷ said.submitted (item 1 a) ∷ []
 abbrev second : Event Checkpoint
 second = said.polled (item 0 b)
 
+-- the ID of the first chain of a list
+abbrev firstId : List Item → ℕ
+firstId [] = 0
+firstId (x ∷ l) = x .id
+
 not-oldest : Right 2 two-wait second → ⊥
 unfolding pubs lives
 not-oldest f = omega (arith, ap (λ (l : List Item). firstId l) (f .1))
 
 pub skips-broken : Broken skips
 unfolding computing
-skips-broken =
-    record {
-      calls = poll ∷ submit-b ∷ submit-a ∷ [];
-      before = two-wait;
-      event = second;
-      computed = refl;
-      meets = (((tt, tt), tt), tt);
-      right-before = as-real (submit-b ∷ submit-a ∷ []) two-wait refl ((tt, tt), tt);
-      wrong = not-oldest;
-    }
-
-pub skips-wrong : Demand skips → ⊥
-skips-wrong = refuted skips skips-broken
+skips-broken = broken skips poll (submit-b ∷ submit-a ∷ []) two-wait second tt refl refl not-oldest

@@ -17,8 +17,9 @@ use Rattle.consumer.specs.Poll.{taken}
 use Rattle.queue.specs.History.{Item, Event, History, pubs, lives}
 use Rattle.queue.specs.History as said
 use Rattle.queue.specs.Promise.{Right}
-use Rattle.wrong.proofs.Ring.{Ring, real, withSubmit, Demand}
-use Rattle.wrong.proofs.Calls.{a, both, item, done, submit-a, submit-both, poll, complete-1, reclaim, computing, as-real, Broken, refuted}
+use Rattle.history.proofs.Ends.{item, done}
+use Rattle.wrong.proofs.Ring.{Ring, real, withSubmit}
+use Rattle.wrong.proofs.Calls.{a, both, submit-a, submit-both, poll, complete-1, reclaim, computing, Broken, broken}
 
 -- a cursor behind a move, where wrap flips only if the head passes the end: one that lands on slot 0 keeps the wrap that it had
 abbrev late : RingCursor → RingCursor → RingCursor
@@ -68,19 +69,7 @@ one-waits f = omega (arith, ap (λ (l : List Item). length l) (f .1))
 
 pub late-submit-broken : Broken late-submit
 unfolding computing
-late-submit-broken =
-    record {
-      calls = poll ∷ submit-a ∷ reclaim ∷ complete-1 ∷ poll ∷ submit-both ∷ [];
-      before = second-round;
-      event = blocked;
-      computed = refl;
-      meets = ((((((tt, tt), tt), tt), tt), tt), tt);
-      right-before = as-real (submit-a ∷ reclaim ∷ complete-1 ∷ poll ∷ submit-both ∷ []) second-round refl (((((tt, tt), tt), tt), tt), tt);
-      wrong = one-waits;
-    }
-
-pub late-submit-wrong : Demand late-submit → ⊥
-late-submit-wrong = refuted late-submit late-submit-broken
+late-submit-broken = broken late-submit poll (submit-a ∷ reclaim ∷ complete-1 ∷ poll ∷ submit-both ∷ []) second-round blocked tt refl refl one-waits
 
 -- ---- all four cursors late, so that the ends agree on the round
 
@@ -110,16 +99,4 @@ not-three f = omega arith
 
 pub late-all-broken : Broken late-all
 unfolding computing
-late-all-broken =
-    record {
-      calls = poll ∷ poll ∷ submit-both ∷ [];
-      before = polled-all;
-      event = five;
-      computed = refl;
-      meets = (((tt, tt), tt), tt);
-      right-before = as-real (poll ∷ submit-both ∷ []) polled-all refl ((tt, tt), tt);
-      wrong = not-three;
-    }
-
-pub late-all-wrong : Demand late-all → ⊥
-late-all-wrong = refuted late-all late-all-broken
+late-all-broken = broken late-all poll (poll ∷ submit-both ∷ []) polled-all five tt refl refl not-three

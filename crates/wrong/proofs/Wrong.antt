@@ -1,25 +1,25 @@
 -- The eight wrong rings in one list: demand 3 is true of the real ring and of none of these.
 -- Assumes nothing.
 use Rattle.wrong.proofs.Ring.{real, Demand, real-meets}
-use Rattle.wrong.proofs.Blocks.{blocks, blocks-wrong, blocks-used, blocks-used-wrong}
-use Rattle.wrong.proofs.Sevens.{sevens, sevens-wrong, sevens-used, sevens-used-wrong}
-use Rattle.wrong.proofs.SameId.{zeros, zeros-wrong}
-use Rattle.wrong.proofs.FreesOne.{frees-one, frees-one-wrong}
-use Rattle.wrong.proofs.WrapLate.{late-submit, late-submit-wrong, late-all, late-all-wrong}
-use Rattle.wrong.proofs.NextOnLast.{next-on-last, next-on-last-wrong}
-use Rattle.wrong.proofs.Skips.{skips, skips-wrong}
-use Rattle.wrong.proofs.GivenAgain.{frees-last, frees-last-wrong}
+use Rattle.wrong.proofs.Calls.{refuted}
+use Rattle.wrong.proofs.Refuses.{refuses, blocks-broken, sevens-broken, refuses-used, blocks-used-broken, sevens-used-broken}
+use Rattle.wrong.proofs.SameId.{same-id, same-id-broken}
+use Rattle.wrong.proofs.FreesOne.{frees-one, frees-one-broken}
+use Rattle.wrong.proofs.WrapLate.{late-submit, late-submit-broken, late-all, late-all-broken}
+use Rattle.wrong.proofs.NextOnLast.{next-on-last, next-on-last-broken}
+use Rattle.wrong.proofs.Skips.{skips, skips-broken}
+use Rattle.wrong.proofs.GivenAgain.{frees-last, frees-last-broken}
 
 pub record Wrong : Type 0 where
   pub the-real-one : Demand real
   -- polls that always block: the consumer's, and poll_used
-  pub always-blocks : Demand blocks → ⊥
-  pub used-always-blocks : Demand blocks-used → ⊥
+  pub always-blocks : Demand (refuses 3) → ⊥
+  pub used-always-blocks : Demand (refuses-used 3) → ⊥
   -- polls that answer 7 to everything: the consumer's, and poll_used
-  pub seven-to-everything : Demand sevens → ⊥
-  pub used-seven-to-everything : Demand sevens-used → ⊥
+  pub seven-to-everything : Demand (refuses 7) → ⊥
+  pub used-seven-to-everything : Demand (refuses-used 7) → ⊥
   -- ID 0 each time
-  pub id-0-each-time : Demand zeros → ⊥
+  pub id-0-each-time : Demand same-id → ⊥
   -- a completion that frees one slot
   pub frees-one-slot : Demand frees-one → ⊥
   -- wrap flipped late: behind a submission, and in every cursor of both ends
@@ -36,15 +36,15 @@ pub wrong : Wrong
 wrong =
     record {
       the-real-one = real-meets;
-      always-blocks = blocks-wrong;
-      used-always-blocks = blocks-used-wrong;
-      seven-to-everything = sevens-wrong;
-      used-seven-to-everything = sevens-used-wrong;
-      id-0-each-time = zeros-wrong;
-      frees-one-slot = frees-one-wrong;
-      wrap-late = late-submit-wrong;
-      every-wrap-late = late-all-wrong;
-      next-on-the-last = next-on-last-wrong;
-      skips-one = skips-wrong;
-      id-given-again = frees-last-wrong;
+      always-blocks = refuted (refuses 3) blocks-broken;
+      used-always-blocks = refuted (refuses-used 3) blocks-used-broken;
+      seven-to-everything = refuted (refuses 7) sevens-broken;
+      used-seven-to-everything = refuted (refuses-used 7) sevens-used-broken;
+      id-0-each-time = refuted same-id same-id-broken;
+      frees-one-slot = refuted frees-one frees-one-broken;
+      wrap-late = refuted late-submit late-submit-broken;
+      every-wrap-late = refuted late-all late-all-broken;
+      next-on-the-last = refuted next-on-last next-on-last-broken;
+      skips-one = refuted skips skips-broken;
+      id-given-again = refuted frees-last frees-last-broken;
     }
