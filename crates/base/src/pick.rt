@@ -34,6 +34,13 @@ pub fn below(n: u16) -> usize
     if n == 0 { 0 } else { (n as usize) - 1 }
 }
 
+// a less b, and 0 where b is more.
+pub fn less(a: usize, b: usize) -> usize
+    ensures { λ r. ⌜ r ≡ a - b ⌝ }
+{
+    if a < b { 0 } else { a - b }
+}
+
 // What stands at a place, and 0 past the end.
 pub fn at16(s: &[u16], i: usize) -> u16
     ensures { λ r. ⌜ r ≡ getD (now (s .entry)) i 0 ⌝ }

@@ -1,3 +1,4 @@
 pub mod Laws
+pub mod Lines
 pub mod Examples
 pub mod Fixed

@@ -1,10 +1,7 @@
 -- What a slot's flags mean to a reader (document 01, "Slots, flags and cursors"; VIRTIO 1.1, 2.7.1).
 use Prim.Native.Nat.{ℕ, _+_, _*_, _/_, _%_}
-use mathlib.Core.Bool.{Bool, cond}
-use Rattle.desc.specs.Flags.{NEXT, WRITE, INDIRECT, AVAIL, USED, has, isAvail, isUsed}
+use Rattle.desc.specs.Flags.{NEXT, WRITE, INDIRECT, AVAIL, USED, has}
 use Rattle.dump.specs.declared.Names.{Names}
-use Rattle.dump.specs.declared.Mark.{Mark}
-use Rattle.dump.specs.declared.Mark.the-variants.{Available, Used, Neither}
 
 -- the eleven bits that are none of the five flags: bits 3 to 6, and 8 to 14
 abbrev pub unnamedOf : ℕ → ℕ
@@ -21,7 +18,3 @@ namesOf f =
       used = has f USED;
       unnamed = unnamedOf f;
     }
-
--- "Available in round w: AVAIL equals w and USED differs from w. Used in round w: both equal w."
-unfoldable pub markOf : ℕ → Bool → Mark
-markOf f w = cond (isAvail f w) Available (cond (isUsed f w) Used Neither)

@@ -1,7 +1,11 @@
-// A region dump, for people who look at a ring: what its first six bytes say, and what a slot's flags mean.
+// A dump of a ring's region, for people: what its first six bytes say, what a slot's flags mean, and the lines that show it.
+mod line;
+
 ghost use mathlib.Core.Path.{_≡_};
+ghost use Rattle.text.specs.Text.{written, puts};
 ghost use Rattle.dump.specs.Header.{headerOf};
-ghost use Rattle.dump.specs.Names.{namesOf, markOf};
+ghost use Rattle.dump.specs.Names.{namesOf};
+ghost use Rattle.dump.specs.Lines.{lineOf};
 use base::bytes;
 
 // Programs run rings of at most so many slots.
@@ -23,13 +27,6 @@ pub struct Names {
     pub avail: bool,
     pub used: bool,
     pub unnamed: u16,
-}
-
-// What a slot is in a round.
-pub enum Mark {
-    Available,
-    Used,
-    Neither,
 }
 
 pub fn read_header(input: &[u8]) -> Header
@@ -62,14 +59,31 @@ pub fn flag_names(flags: u16) -> Names
     }
 }
 
-pub fn mark_in(flags: u16, wrap: bool) -> Mark
-    ensures { λ r. ⌜ r ≡ markOf flags wrap ⌝ }
+// Line k of what is shown of a dump, at the start of a lent buffer: how long it is, 0 where there is no such line. The
+// longest has 110 bytes, and one that does not fit is told by `text::LOST`.
+pub fn line_of(input: &[u8], k: u16, out: &mut [u8]) -> usize
+    ensures { λ r. ⌜ written r (now (out .exit)) ≡ puts (lineOf (now (input .entry)) k) (written 0 (now (out .entry))) ⌝ }
 {
-    if desc::is_avail(flags, wrap) {
-        return Mark::Available;
+    match read_header(input) {
+        Header::Ring(size, table) => line::of_ring(input, 6 + table as usize, size, k, out),
+        Header::NoHeader => line::only(
+            out,
+            k,
+            b"bad input: fewer than the six bytes of a size and a table's offset\n",
+        ),
+        Header::BadSize(n) => line::around(
+            out,
+            k,
+            b"bad input: the size is ",
+            n as u64,
+            b", not 1 to 2048\n",
+        ),
+        Header::TableOutside(n) => line::around(
+            out,
+            k,
+            b"bad input: the table begins at ",
+            n as u64,
+            b", behind the end of the bytes\n",
+        ),
     }
-    if desc::is_used(flags, wrap) {
-        return Mark::Used;
-    }
-    Mark::Neither
 }

@@ -1,6 +1,5 @@
 // Text put into a lent buffer from a place on. Each function answers the next place.
 ghost use mathlib.Core.Path.{_≡_};
-ghost use Prim.Native.Nat.{_-_};
 ghost use Rattle.text.specs.Text.{numberOf, blanksOf, rightOf, hexOf, written, putText, puts};
 use base::bytes;
 use base::pick;
@@ -41,14 +40,8 @@ pub fn right(out: &mut [u8], n: usize, x: u64, width: usize) -> usize
 {
     let mut text = [0u8; 20];
     let k = io::decimal(x, &mut text);
-    let n = blanks(out, n, less(width, k));
+    let n = blanks(out, n, pick::less(width, k));
     put(out, n, &text[..k])
-}
-
-fn less(a: usize, b: usize) -> usize
-    ensures { λ r. ⌜ r ≡ a - b ⌝ }
-{
-    if a < b { 0 } else { a - b }
 }
 
 // At most twenty blanks.
