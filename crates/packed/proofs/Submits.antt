@@ -114,7 +114,7 @@ module _ (l : Layout) (laid-out : badLayout l ≡ false) where
           ∙ taken-is (w .prod) (steps (w .prod .layout .size) n (w .prod .avail)) n
 
       abbrev submit-world : World
-      submit-world = record { prod = prod′; ids = w .ids; counts = set (w .counts) top n; cons = w .cons; held = w .held; ring = ring′ }
+      submit-world = record { prod = prod′; ids = w .ids; counts = set (w .counts) top n; cons = w .cons; heldCounts = w .heldCounts; ring = ring′ }
 
       world-is : afterMade w (submitsOf w c) ≡ submit-world
       world-is =
@@ -124,7 +124,7 @@ module _ (l : Layout) (laid-out : badLayout l ≡ false) where
             ids = is-submitted i .ids;
             counts = is-submitted i .counts;
             cons = w .cons;
-            held = w .held;
+            heldCounts = w .heldCounts;
             ring = ring′;
           }
 
@@ -261,5 +261,5 @@ module _ (l : Layout) (laid-out : badLayout l ≡ false) where
         good-by l q _ (saysSubmitted c (o .answer)) _ (afterMade w o)
         (ap₂ (λ (m : ℕ) (v : ℕ). cond (eqb m 0) (said.submitted (record { id = v; chain = c })) (said.looked (said.refused (said.submit c) lent-good m)))
         (tell-number old-c o) (tell-value old-c o))
-        (λ i. record { prod = tell-end old-c o i; ids = tell-ids old-c o i; counts = tell-counts old-c o i; cons = w .cons; held = w .held; ring = tell-ring old-c o i })
+        (λ i. record { prod = tell-end old-c o i; ids = tell-ids old-c o i; counts = tell-counts old-c o i; cons = w .cons; heldCounts = w .heldCounts; ring = tell-ring old-c o i })
         (submit-good typed)

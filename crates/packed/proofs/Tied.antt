@@ -73,10 +73,10 @@ Step w c e v = (ownSays w c ≡ e) × (ownLeaves w c ≡ v)
 
 -- a world in which the producer was given these, and one in which the consumer was
 abbrev withProducer : World → RingProducer → List ℕ → List ℕ → List ℕ → World
-withProducer w p r i k = record { prod = p; ids = i; counts = k; cons = w .cons; held = w .held; ring = r }
+withProducer w p r i k = record { prod = p; ids = i; counts = k; cons = w .cons; heldCounts = w .heldCounts; ring = r }
 
 abbrev withConsumer : World → RingConsumer → List ℕ → List ℕ → World
-withConsumer w p r k = record { prod = w .prod; ids = w .ids; counts = w .counts; cons = p; held = k; ring = r }
+withConsumer w p r k = record { prod = w .prod; ids = w .ids; counts = w .counts; cons = p; heldCounts = k; ring = r }
 
 module _ (w : World) where
   pub made-submit-one-tied : Ties made-submit-one.Post (λ a r s. Step (withProducer w (a .0) (now (a .1 .0)) (now (a .1 .1 .0)) (now (a .1 .1 .1 .0))) (submitOne (a .1 .1 .1 .1 .0) (a .1 .1 .1 .1 .1 .0) (a .1 .1 .1 .1 .1 .1 .0)) (saysSubmitted (oneOf (a .1 .1 .1 .1 .0) (a .1 .1 .1 .1 .1 .0) (a .1 .1 .1 .1 .1 .1 .0)) (submits.answerOf r)) (withProducer w (submits.recordOf r) (now (s .1 .0)) (now (a .1 .1 .0)) (now (s .1 .1 .1 .0))))
@@ -163,11 +163,11 @@ module _ (w : World) where
   unfolding ownSays ownLeaves
   taken-submit-used-with-notify-tied κ a r s p = (ap (λ (o : takenOutcome.Outcome). saysCompleted (a .1 .1 .1 .0) (a .1 .1 .1 .1 .0) (o .answer)) (sym p), ap (afterCompleted (withConsumer w (a .0) (now (a .1 .0)) (now (a .1 .1 .0)))) (sym p))
 
-  pub taken-peek-available-tied : Ties taken-peek-available.Post (λ a r s. Step (withConsumer w (a .0) (now (a .1 .0)) (w .held)) peekAvailable (saysPeeked (boolAnswer r)) (withConsumer w (a .0) (now (a .1 .0)) (w .held)))
+  pub taken-peek-available-tied : Ties taken-peek-available.Post (λ a r s. Step (withConsumer w (a .0) (now (a .1 .0)) (w .heldCounts)) peekAvailable (saysPeeked (boolAnswer r)) (withConsumer w (a .0) (now (a .1 .0)) (w .heldCounts)))
   unfolding ownSays ownLeaves
   taken-peek-available-tied κ a r s p = (ap saysPeeked (sym p), refl)
 
-  pub taken-poll-checkpoint-tied : Ties taken-poll-checkpoint.Post (λ a r s. Step (withConsumer w (a .0) (w .ring) (w .held)) pollCheckpoint (saysMarked (rollbacks.checkpointAnswer r)) (withConsumer w (a .0) (w .ring) (w .held)))
+  pub taken-poll-checkpoint-tied : Ties taken-poll-checkpoint.Post (λ a r s. Step (withConsumer w (a .0) (w .ring) (w .heldCounts)) pollCheckpoint (saysMarked (rollbacks.checkpointAnswer r)) (withConsumer w (a .0) (w .ring) (w .heldCounts)))
   unfolding ownSays ownLeaves
   taken-poll-checkpoint-tied κ a r s p = (ap saysMarked (sym p), refl)
 
@@ -175,42 +175,42 @@ module _ (w : World) where
   unfolding ownSays ownLeaves
   taken-rollback-polls-tied κ a r s p = (ap (λ (o : takenOutcome.Rolled). saysRolled (a .0 .layout .size) (a .1 .1 .0) (now (a .1 .1 .1 .0)) (o .answer)) (sym p), ap (afterRolled (withConsumer w (a .0) (w .ring) (now (a .1 .0)))) (sym p))
 
-  pub taken-num-free-tied : Ties taken-num-free.Post (λ a r s. Step (withConsumer w (a .0) (w .ring) (w .held)) (consumerAsked consumerNumFree) (saysQuiet true (countAnswer r)) (withConsumer w (a .0) (w .ring) (w .held)))
+  pub taken-num-free-tied : Ties taken-num-free.Post (λ a r s. Step (withConsumer w (a .0) (w .ring) (w .heldCounts)) (consumerAsked consumerNumFree) (saysQuiet true (countAnswer r)) (withConsumer w (a .0) (w .ring) (w .heldCounts)))
   unfolding ownSays ownLeaves
   taken-num-free-tied κ a r s p = (ap (saysQuiet true) (sym p), refl)
 
-  pub taken-num-inflight-tied : Ties taken-num-inflight.Post (λ a r s. Step (withConsumer w (a .0) (w .ring) (w .held)) (consumerAsked consumerNumInflight) (saysQuiet true (countAnswer r)) (withConsumer w (a .0) (w .ring) (w .held)))
+  pub taken-num-inflight-tied : Ties taken-num-inflight.Post (λ a r s. Step (withConsumer w (a .0) (w .ring) (w .heldCounts)) (consumerAsked consumerNumInflight) (saysQuiet true (countAnswer r)) (withConsumer w (a .0) (w .ring) (w .heldCounts)))
   unfolding ownSays ownLeaves
   taken-num-inflight-tied κ a r s p = (ap (saysQuiet true) (sym p), refl)
 
-  pub taken-is-full-tied : Ties taken-is-full.Post (λ a r s. Step (withConsumer w (a .0) (w .ring) (w .held)) (consumerAsked consumerIsFull) (saysQuiet true (boolAnswer r)) (withConsumer w (a .0) (w .ring) (w .held)))
+  pub taken-is-full-tied : Ties taken-is-full.Post (λ a r s. Step (withConsumer w (a .0) (w .ring) (w .heldCounts)) (consumerAsked consumerIsFull) (saysQuiet true (boolAnswer r)) (withConsumer w (a .0) (w .ring) (w .heldCounts)))
   unfolding ownSays ownLeaves
   taken-is-full-tied κ a r s p = (ap (saysQuiet true) (sym p), refl)
 
-  pub taken-len-tied : Ties taken-len.Post (λ a r s. Step (withConsumer w (a .0) (w .ring) (w .held)) (consumerAsked consumerLen) (saysQuiet true (countAnswer r)) (withConsumer w (a .0) (w .ring) (w .held)))
+  pub taken-len-tied : Ties taken-len.Post (λ a r s. Step (withConsumer w (a .0) (w .ring) (w .heldCounts)) (consumerAsked consumerLen) (saysQuiet true (countAnswer r)) (withConsumer w (a .0) (w .ring) (w .heldCounts)))
   unfolding ownSays ownLeaves
   taken-len-tied κ a r s p = (ap (saysQuiet true) (sym p), refl)
 
-  pub taken-avail-cursor-tied : Ties taken-avail-cursor.Post (λ a r s. Step (withConsumer w (a .0) (w .ring) (w .held)) (consumerAsked consumerAvailCursor) (saysQuiet true (cursorAnswer r)) (withConsumer w (a .0) (w .ring) (w .held)))
+  pub taken-avail-cursor-tied : Ties taken-avail-cursor.Post (λ a r s. Step (withConsumer w (a .0) (w .ring) (w .heldCounts)) (consumerAsked consumerAvailCursor) (saysQuiet true (cursorAnswer r)) (withConsumer w (a .0) (w .ring) (w .heldCounts)))
   unfolding ownSays ownLeaves
   taken-avail-cursor-tied κ a r s p = (ap (saysQuiet true) (sym p), refl)
 
-  pub taken-used-cursor-tied : Ties taken-used-cursor.Post (λ a r s. Step (withConsumer w (a .0) (w .ring) (w .held)) (consumerAsked consumerUsedCursor) (saysQuiet true (cursorAnswer r)) (withConsumer w (a .0) (w .ring) (w .held)))
+  pub taken-used-cursor-tied : Ties taken-used-cursor.Post (λ a r s. Step (withConsumer w (a .0) (w .ring) (w .heldCounts)) (consumerAsked consumerUsedCursor) (saysQuiet true (cursorAnswer r)) (withConsumer w (a .0) (w .ring) (w .heldCounts)))
   unfolding ownSays ownLeaves
   taken-used-cursor-tied κ a r s p = (ap (saysQuiet true) (sym p), refl)
 
-  pub taken-disable-avail-notifications-tied : Ties taken-disable-avail-notifications.Post (λ a r s. Step (withConsumer w (a .0) (now (a .1 .0)) (w .held)) (turnAvail DISABLE) (saysQuiet true (takenOutcome.answerOf r)) (withConsumer w (takenOutcome.recordOf r) (now (s .1 .0)) (w .held)))
+  pub taken-disable-avail-notifications-tied : Ties taken-disable-avail-notifications.Post (λ a r s. Step (withConsumer w (a .0) (now (a .1 .0)) (w .heldCounts)) (turnAvail DISABLE) (saysQuiet true (takenOutcome.answerOf r)) (withConsumer w (takenOutcome.recordOf r) (now (s .1 .0)) (w .heldCounts)))
   unfolding ownSays ownLeaves
-  taken-disable-avail-notifications-tied κ a r s p = (ap (λ (o : takenOutcome.Changed). saysQuiet true (o .answer)) (sym p), ap (afterAvailTurn (withConsumer w (a .0) (now (a .1 .0)) (w .held))) (sym p))
+  taken-disable-avail-notifications-tied κ a r s p = (ap (λ (o : takenOutcome.Changed). saysQuiet true (o .answer)) (sym p), ap (afterAvailTurn (withConsumer w (a .0) (now (a .1 .0)) (w .heldCounts))) (sym p))
 
-  pub taken-enable-avail-notifications-tied : Ties taken-enable-avail-notifications.Post (λ a r s. Step (withConsumer w (a .0) (now (a .1 .0)) (w .held)) (turnAvail ENABLE) (saysQuiet true (takenOutcome.answerOf r)) (withConsumer w (takenOutcome.recordOf r) (now (s .1 .0)) (w .held)))
+  pub taken-enable-avail-notifications-tied : Ties taken-enable-avail-notifications.Post (λ a r s. Step (withConsumer w (a .0) (now (a .1 .0)) (w .heldCounts)) (turnAvail ENABLE) (saysQuiet true (takenOutcome.answerOf r)) (withConsumer w (takenOutcome.recordOf r) (now (s .1 .0)) (w .heldCounts)))
   unfolding ownSays ownLeaves
-  taken-enable-avail-notifications-tied κ a r s p = (ap (λ (o : takenOutcome.Changed). saysQuiet true (o .answer)) (sym p), ap (afterAvailTurn (withConsumer w (a .0) (now (a .1 .0)) (w .held))) (sym p))
+  taken-enable-avail-notifications-tied κ a r s p = (ap (λ (o : takenOutcome.Changed). saysQuiet true (o .answer)) (sym p), ap (afterAvailTurn (withConsumer w (a .0) (now (a .1 .0)) (w .heldCounts))) (sym p))
 
-  pub taken-enable-avail-notifications-desc-tied : Ties taken-enable-avail-notifications-desc.Post (λ a r s. Step (withConsumer w (a .0) (now (a .1 .0)) (w .held)) (enableAvailDesc (a .1 .1 .0) (a .1 .1 .1 .0)) (saysQuiet true (takenOutcome.answerOf r)) (withConsumer w (takenOutcome.recordOf r) (now (s .1 .0)) (w .held)))
+  pub taken-enable-avail-notifications-desc-tied : Ties taken-enable-avail-notifications-desc.Post (λ a r s. Step (withConsumer w (a .0) (now (a .1 .0)) (w .heldCounts)) (enableAvailDesc (a .1 .1 .0) (a .1 .1 .1 .0)) (saysQuiet true (takenOutcome.answerOf r)) (withConsumer w (takenOutcome.recordOf r) (now (s .1 .0)) (w .heldCounts)))
   unfolding ownSays ownLeaves
-  taken-enable-avail-notifications-desc-tied κ a r s p = (ap (λ (o : takenOutcome.Changed). saysQuiet true (o .answer)) (sym p), ap (afterAvailTurn (withConsumer w (a .0) (now (a .1 .0)) (w .held))) (sym p))
+  taken-enable-avail-notifications-desc-tied κ a r s p = (ap (λ (o : takenOutcome.Changed). saysQuiet true (o .answer)) (sym p), ap (afterAvailTurn (withConsumer w (a .0) (now (a .1 .0)) (w .heldCounts))) (sym p))
 
-  pub taken-enable-avail-notifications-for-next-tied : Ties taken-enable-avail-notifications-for-next.Post (λ a r s. Step (withConsumer w (a .0) (now (a .1 .0)) (w .held)) enableAvailForNext (saysQuiet true (takenOutcome.answerOf r)) (withConsumer w (takenOutcome.recordOf r) (now (s .1 .0)) (w .held)))
+  pub taken-enable-avail-notifications-for-next-tied : Ties taken-enable-avail-notifications-for-next.Post (λ a r s. Step (withConsumer w (a .0) (now (a .1 .0)) (w .heldCounts)) enableAvailForNext (saysQuiet true (takenOutcome.answerOf r)) (withConsumer w (takenOutcome.recordOf r) (now (s .1 .0)) (w .heldCounts)))
   unfolding ownSays ownLeaves
-  taken-enable-avail-notifications-for-next-tied κ a r s p = (ap (λ (o : takenOutcome.Changed). saysQuiet true (o .answer)) (sym p), ap (afterAvailTurn (withConsumer w (a .0) (now (a .1 .0)) (w .held))) (sym p))
+  taken-enable-avail-notifications-for-next-tied κ a r s p = (ap (λ (o : takenOutcome.Changed). saysQuiet true (o .answer)) (sym p), ap (afterAvailTurn (withConsumer w (a .0) (now (a .1 .0)) (w .heldCounts))) (sym p))
