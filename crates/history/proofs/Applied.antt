@@ -8,8 +8,10 @@ use mathlib.Core.Logic.{_≢_, _⊎_, inl, inr}
 use mathlib.Core.List.{[], _∷_, _++_}
 use mathlib.Core.Bool.{Bool, true, false, false≢true, _&&_}
 use native.Mathlib.Omega.{arith}
-use lib.Dec.{leb}
+use lib.Dec.{leb, eqb}
 use lib.ListN.{length, drop}
+use Rattle.base.specs.Answer as answer
+use Rattle.base.specs.Answer.{bit}
 use Rattle.cursor.specs.Cursor.{at}
 use Rattle.chain.specs.Chain.{badChain}
 use Rattle.producer.specs.Poll as usedPoll
@@ -24,11 +26,13 @@ use Rattle.queue.specs.Sentences.{At, Stands, Literally, ItsOwn, ItsOwnBefore}
 use Rattle.queue.specs.Machine.{worldOf, historyOf}
 use Rattle.queue.proofs.Machine.{history-drop}
 use Rattle.packed.specs.Calls.{Foreign, oneOf, pollUsed, nextId, shouldNotifySince, pollAvailable, submitUsedWithNotify, peekAvailable, rollbackPolls, consumers}
-use Rattle.packed.specs.Machine.{World, Given, packed, submitsOf, ownSays, ownLeaves, astrayIn, callOf, says}
+use Rattle.packed.specs.Calls.{ProducerQuestion, producerNumFree, producerNumInflight, producerIsFull, producerLen, ConsumerQuestion, consumerNumFree, consumerNumInflight, consumerIsFull, consumerLen}
+use Rattle.packed.specs.Machine.{World, Given, packed, producerAnswers, consumerAnswers, submitsOf, ownSays, ownLeaves, astrayIn, callOf, says}
 use Rattle.packed.specs.Opening.{Run, historyIn}
 use Rattle.packed.proofs.Answers.{either-keeps, poll-counts, reclaim-counts}
 use Rattle.packed.proofs.Packed.{size-stays}
 use Rattle.packed.proofs.Promises as demand
+use Rattle.packed.proofs.Counted as counted
 use Rattle.packed.proofs.Astray.{astray-leaves}
 use Rattle.history.proofs.Ends.{zeros, world-three, does, strays, done, chain, submits, submitsOne, completes, ids-fit, polls-for, checkpoint}
 use Rattle.history.proofs.Run.{a, b, c, d, e, f, g, h, i, c2, outsider, calls, history, answers, undoes-two, whole}
@@ -285,6 +289,55 @@ no-next =
   where
     not-below : 3 < 3 → ⊥
     not-below y = omega (arith, y)
+
+-- ---- counts: c, d and e are out, of one slot each; after two of three polls the consumer holds c and d
+
+abbrev outAt : (k : ℕ) (q : ProducerQuestion) (f : ℕ → ℕ) → Type 0
+outAt k q f = producerAnswers (world k) q ≡ answer.done (f (slotsIn (out (until k))) ∷ [])
+
+abbrev heldAt : (k : ℕ) (q : ConsumerQuestion) (f : ℕ → ℕ) → Type 0
+heldAt k q f = consumerAnswers (world k) q ≡ answer.done (f (slotsIn (items (held (until k)))) ∷ [])
+
+out-at : (k : ℕ) (q : ProducerQuestion) (f : ℕ → ℕ) → producerAnswers (world k) q ≡ answer.done (f (slotsIn (out (historyIn (first k)))) ∷ []) → outAt k q f
+out-at k q f z = subst (λ t. producerAnswers (world k) q ≡ answer.done (f (slotsIn (out t)) ∷ [])) (spoken k) z
+
+held-at : (k : ℕ) (q : ConsumerQuestion) (f : ℕ → ℕ) → consumerAnswers (world k) q ≡ answer.done (f (slotsIn (items (held (historyIn (first k))))) ∷ []) → heldAt k q f
+held-at k q f z = subst (λ t. consumerAnswers (world k) q ≡ answer.done (f (slotsIn (items (held t))) ∷ [])) (spoken k) z
+
+-- `producer-num-free`, `producer-num-inflight`, `producer-is-full`, `producer-len`
+pub producer-counts :
+    (producerAnswers (world 28) producerNumFree ≡ answer.done (0 ∷ []))
+    × (producerAnswers (world 28) producerNumInflight ≡ answer.done (3 ∷ []))
+    × (producerAnswers (world 28) producerIsFull ≡ answer.done (1 ∷ []))
+    × (producerAnswers (world 28) producerLen ≡ answer.done (3 ∷ []))
+unfolding out
+producer-counts = (
+  out-at 28 producerNumFree (λ n. 3 - n) (counted.producer-num-free (first 28)),
+  out-at 28 producerNumInflight (λ n. n) (counted.producer-num-inflight (first 28)),
+  out-at 28 producerIsFull (λ n. bit (eqb n 3)) (counted.producer-is-full (first 28)),
+  counted.producer-len (first 28),
+)
+
+-- `consumer-num-free`, `consumer-num-inflight`, `consumer-is-full`, `consumer-len`
+pub consumer-counts :
+    (consumerAnswers (world 32) consumerNumFree ≡ answer.done (1 ∷ []))
+    × (consumerAnswers (world 32) consumerNumInflight ≡ answer.done (2 ∷ []))
+    × (consumerAnswers (world 32) consumerIsFull ≡ answer.done (0 ∷ []))
+    × (consumerAnswers (world 32) consumerLen ≡ answer.done (3 ∷ []))
+unfolding held polls
+consumer-counts = (
+  held-at 32 consumerNumFree (λ n. 3 - n) (counted.consumer-num-free (first 32)),
+  held-at 32 consumerNumInflight (λ n. n) (counted.consumer-num-inflight (first 32)),
+  held-at 32 consumerIsFull (λ n. bit (eqb n 3)) (counted.consumer-is-full (first 32)),
+  counted.consumer-len (first 32),
+)
+
+-- `num-free-grows`: before a's completion came back num_free answered 1, behind it it answers 1 and the two slots of a
+pub two-more-are-free : producerAnswers (world 24) producerNumFree ≡ answer.done ((1 + 2) ∷ [])
+unfolding pubs reclaims out
+two-more-are-free =
+    counted.num-free-grows (first 24) (until 23) (done 2 32) (spoken 24) 0 second-is-of-a a refl 1
+    (out-at 23 producerNumFree (λ n. 3 - n) (counted.producer-num-free (first 23)))
 
 -- ---- rollbacks
 

@@ -15,4 +15,5 @@ pub mod First
 pub mod Packed
 pub mod Astray
 pub mod Promises
+pub mod Counted
 pub mod Tied

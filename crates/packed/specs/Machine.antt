@@ -40,7 +40,8 @@ pub record World : Type 0 where
   pub heldCounts : List ℕ
   pub ring : List ℕ
 
--- ---- the answers of the producer's and the consumer's questions: as their contracts have them; the promise says nothing of the values
+-- ---- the answers of the producer's and the consumer's questions, as their contracts have them. The promise says nothing of the values; what
+-- they count is told by packed/proofs/Counted.antt
 
 abbrev pub producerValues : ProducerQuestion → RingProducer → List ℕ
 producerValues producerNumFree p = p .free ∷ []
@@ -58,6 +59,13 @@ consumerValues consumerIsFull p = bit (eqb (p .inflight) (p .layout .size)) ∷ 
 consumerValues consumerLen p = p .layout .size ∷ []
 consumerValues consumerAvailCursor p = valuesOf (p .avail)
 consumerValues consumerUsedCursor p = valuesOf (p .used)
+
+-- in a world
+abbrev pub producerAnswers : World → ProducerQuestion → Answer
+producerAnswers w q = askOf (madeRecord.badRecord (w .prod)) (producerValues q (w .prod))
+
+abbrev pub consumerAnswers : World → ConsumerQuestion → Answer
+consumerAnswers w q = askOf (takenRecord.badRecord (w .cons)) (consumerValues q (w .cons))
 
 -- ---- an event, read off a call's answer, what was handed in with it, and the outputs at exit
 
@@ -155,7 +163,7 @@ ownSays w (submitOne a l b) = saysSubmitted (oneOf a l b) (submitsOf w (oneOf a 
 ownSays w (submitOneWithNotify a l b) = saysSubmitted (oneOf a l b) (tellsOf w (oneOf a l b) .answer)
 ownSays w pollUsed = saysReclaimed (usedPoll.pollOf (w .prod) (w .ring) (w .ids) (w .counts) .answer)
 ownSays w nextId = saysNext (usedPoll.nextOf (w .prod) (w .ids) (w .counts))
-ownSays w (producerAsked q) = saysQuiet true (askOf (madeRecord.badRecord (w .prod)) (producerValues q (w .prod)))
+ownSays w (producerAsked q) = saysQuiet true (producerAnswers w q)
 ownSays w (shouldNotifySince c) = saysQuiet (ltb (c .head) (w .prod .layout .size)) (usedNotices.sinceOf (w .prod) (w .ring) c)
 ownSays w (turnUsed f) = saysQuiet true (usedNotices.turnOf (w .prod) (w .ring) f .answer)
 ownSays w (enableUsedDesc o b) = saysQuiet true (usedNotices.armOf (w .prod) (w .ring) o b .answer)
@@ -166,7 +174,7 @@ ownSays w (submitUsedWithNotify i l) = saysCompleted i l (tellOf (w .cons .used)
 ownSays w peekAvailable = saysPeeked (peekOf (w .cons) (w .ring))
 ownSays w pollCheckpoint = saysMarked (askOf (takenRecord.badRecord (w .cons)) (checkpointValues (checkpointOf (w .cons))))
 ownSays w (rollbackPolls c js) = saysRolled (w .cons .layout .size) c js (rollbackOf (w .cons) (w .heldCounts) c js .answer)
-ownSays w (consumerAsked q) = saysQuiet true (askOf (takenRecord.badRecord (w .cons)) (consumerValues q (w .cons)))
+ownSays w (consumerAsked q) = saysQuiet true (consumerAnswers w q)
 ownSays w (turnAvail f) = saysQuiet true (availNotices.turnOf (w .cons) (w .ring) f .answer)
 ownSays w (enableAvailDesc o b) = saysQuiet true (availNotices.armOf (w .cons) (w .ring) o b .answer)
 ownSays w enableAvailForNext = saysQuiet true (availNotices.armOf (w .cons) (w .ring) (w .cons .avail .head) (w .cons .avail .wrap) .answer)
