@@ -59,8 +59,13 @@ module _ (r : Run) where
   inflight-is : worldIn r .cons .inflight ≡ heldSlots
   inflight-is =
       let q = model (historyIn r) in
-      omega (arith, like-queue r .1 .inflight, both-tot (q .old) (q .fresh), slots-tot (items (held (historyIn r))),
-      ap (λ (l : List Poll). tot (ofItems (items l))) (linked .held-is))
+      omega (
+        arith,
+        like-queue r .1 .inflight,
+        both-tot (q .old) (q .fresh),
+        slots-tot (items (held (historyIn r))),
+        ap (λ (l : List Poll). tot (ofItems (items l))) (linked .held-is),
+      )
 
   -- every question is answered
   producer-answers : (q : ProducerQuestion) → producerAnswers (worldIn r) q ≡ done (producerValues q (worldIn r .prod))

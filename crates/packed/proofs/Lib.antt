@@ -16,4 +16,5 @@ pub mod Packed
 pub mod Astray
 pub mod Promises
 pub mod Counted
+pub mod Reset
 pub mod Tied

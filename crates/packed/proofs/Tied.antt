@@ -1,7 +1,7 @@
 -- The machine's step is the function's contract: whatever result and exit the generated contract of a call allows, the machine says what is
 -- read off that result and leaves that exit. So a contract that changes breaks this file, or goes through it into demand 3.
 -- Assumes nothing.
-use mathlib.Core.Path.{_≡_, refl, sym, ap}
+use mathlib.Core.Path.{_≡_, refl, sym, ap, _∙_}
 use mathlib.Core.Bool.{true}
 use mathlib.Core.List.{List}
 use Prim.Native.Nat.{ℕ}
@@ -28,6 +28,19 @@ use Rattle.packed.specs.Calls.{Own, oneOf}
 use Rattle.packed.specs.Calls.{producerNumFree, producerNumInflight, producerIsFull, producerLen, producerDescTable, producerAvailCursor, producerUsedCursor, consumerNumFree, consumerNumInflight, consumerIsFull, consumerLen, consumerAvailCursor, consumerUsedCursor}
 use Rattle.packed.specs.Calls.{submitAvailable, submitAvailableWithNotify, submitOne, submitOneWithNotify, pollUsed, nextId, producerAsked, shouldNotifySince, turnUsed, enableUsedDesc, enableUsedForNext, pollAvailable, submitUsed, submitUsedWithNotify, peekAvailable, pollCheckpoint, rollbackPolls, consumerAsked, turnAvail, enableAvailDesc, enableAvailForNext}
 use Rattle.packed.specs.Machine.{World, saysSubmitted, saysReclaimed, saysNext, saysQuiet, saysPolled, saysCompleted, saysPeeked, saysMarked, saysRolled, afterMade, afterUsedTurn, afterTaken, afterCompleted, afterRolled, afterAvailTurn, ownSays, ownLeaves}
+use Rattle.packed.specs.Opening.{Opening, producerOpens, consumerOpens, openedWorld}
+use Rattle.packed.specs.Reset.{producerReset, consumerReset, withProducerReset, withConsumerReset}
+use Rattle.packed.proofs.First.{made-answer, taken-answer}
+use Rattle.producer.specs.Fresh as madeFresh
+use Rattle.producer.specs.declared.Opened.the-variants as madeOpened
+use Rattle.producer.proofs.Same as madeSame
+use Rattle.producer.proofs.RingProducer.new.Reads as made-new
+use Rattle.producer.proofs.RingProducer.reset.Reads as made-reset
+use Rattle.consumer.specs.Fresh as takenFresh
+use Rattle.consumer.specs.declared.Opened.the-variants as takenOpened
+use Rattle.consumer.proofs.Same as takenSame
+use Rattle.consumer.proofs.RingConsumer.new.Reads as taken-new
+use Rattle.consumer.proofs.RingConsumer.reset.Reads as taken-reset
 use Rattle.producer.proofs.RingProducer.submit_one.Reads as made-submit-one
 use Rattle.producer.proofs.RingProducer.submit_available.Reads as made-submit-available
 use Rattle.producer.proofs.RingProducer.submit_available_with_notify.Reads as made-submit-available-with-notify
@@ -214,3 +227,29 @@ module _ (w : World) where
   pub taken-enable-avail-notifications-for-next-tied : Ties taken-enable-avail-notifications-for-next.Post (λ a r s. Step (withConsumer w (a .0) (now (a .1 .0)) (w .heldCounts)) enableAvailForNext (saysQuiet true (takenOutcome.answerOf r)) (withConsumer w (takenOutcome.recordOf r) (now (s .1 .0)) (w .heldCounts)))
   unfolding ownSays ownLeaves
   taken-enable-avail-notifications-for-next-tied κ a r s p = (ap (λ (o : takenOutcome.Changed). saysQuiet true (o .answer)) (sym p), ap (afterAvailTurn (withConsumer w (a .0) (now (a .1 .0)) (w .heldCounts))) (sym p))
+
+  -- ---- the resets, which are no calls of the machine (packed/specs/Reset.antt)
+
+  pub made-reset-tied : Ties made-reset.Post (λ a r s. (producerReset (withProducer w (a .0) (now (a .1 .0)) (now (a .1 .1 .0)) (now (a .1 .1 .1 .0))) .answer ≡ usedNotices.turnAnswer r) × (withProducerReset (withProducer w (a .0) (now (a .1 .0)) (now (a .1 .1 .0)) (now (a .1 .1 .1 .0))) ≡ withProducer w (usedNotices.turnRecord r) (now (s .1 .0)) (now (s .1 .1 .0)) (now (s .1 .1 .1 .0))))
+  made-reset-tied κ a r s p = (ap (λ (o : made.Outcome). o .answer) (sym p), ap (afterMade (withProducer w (a .0) (now (a .1 .0)) (now (a .1 .1 .0)) (now (a .1 .1 .1 .0)))) (sym p))
+
+  pub taken-reset-tied : Ties taken-reset.Post (λ a r s. (consumerReset (withConsumer w (a .0) (now (a .1 .0)) (now (a .1 .1 .0))) .answer ≡ takenOutcome.answerOf r) × (withConsumerReset (withConsumer w (a .0) (now (a .1 .0)) (now (a .1 .1 .0))) ≡ withConsumer w (takenOutcome.recordOf r) (now (s .1 .0)) (now (s .1 .1 .0))))
+  taken-reset-tied κ a r s p = (ap (λ (o : takenOutcome.Outcome). o .answer) (sym p), ap (afterCompleted (withConsumer w (a .0) (now (a .1 .0)) (now (a .1 .1 .0)))) (sym p))
+
+-- ---- the openings: where `new` is given what an opening is, it answers the record of the opened world and leaves its tables
+
+-- numbers and lists that are given to `new`, of any opening that they are the geometry and the bytes of
+abbrev Geometry : Opening → ℕ → ℕ → ℕ → ℕ → List ℕ → Type 0
+Geometry o size table driver device ring = (size ≡ o .size) × (table ≡ o .table) × (driver ≡ o .driver) × (device ≡ o .device) × (ring ≡ o .ring)
+
+pub made-new-tied : Ties made-new.Post (λ a r s. (o : Opening) → Geometry o (a .0) (a .1 .0) (a .1 .1 .0) (a .1 .1 .1 .0) (now (a .1 .1 .1 .1 .0)) → now (a .1 .1 .1 .1 .1 .0) ≡ o .ids → now (a .1 .1 .1 .1 .1 .1 .0) ≡ o .counts → (r ≡ madeOpened.Ring (openedWorld o .prod)) × (now (s .1 .1 .1 .1 .1 .0) ≡ openedWorld o .ids) × (now (s .1 .1 .1 .1 .1 .1 .0) ≡ openedWorld o .counts))
+made-new-tied κ a r s p o g i k =
+    let e : madeFresh.openOf (a .0) (a .1 .0) (a .1 .1 .0) (a .1 .1 .1 .0) (now (a .1 .1 .1 .1 .0)) (now (a .1 .1 .1 .1 .1 .0)) (now (a .1 .1 .1 .1 .1 .1 .0)) ≡ producerOpens o =
+    rw (g .0, g .1, g .2, g .3, g .4, i, k) refl in
+    (madeSame.opened-same r (madeOpened.Ring (openedWorld o .prod)) (ap (λ (x : madeFresh.Open). x .answer) (p ∙ e) ∙ made-answer o), ap (λ (x : madeFresh.Open). x .ids) (p ∙ e), ap (λ (x : madeFresh.Open). x .counts) (p ∙ e))
+
+pub taken-new-tied : Ties taken-new.Post (λ a r s. (o : Opening) → Geometry o (a .0) (a .1 .0) (a .1 .1 .0) (a .1 .1 .1 .0) (now (a .1 .1 .1 .1 .0)) → now (a .1 .1 .1 .1 .1 .0) ≡ o .heldCounts → (r ≡ takenOpened.Ring (openedWorld o .cons)) × (now (s .1 .1 .1 .1 .1 .0) ≡ openedWorld o .heldCounts))
+taken-new-tied κ a r s p o g k =
+    let e : takenFresh.openOf (a .0) (a .1 .0) (a .1 .1 .0) (a .1 .1 .1 .0) (now (a .1 .1 .1 .1 .0)) (now (a .1 .1 .1 .1 .1 .0)) ≡ consumerOpens o =
+    rw (g .0, g .1, g .2, g .3, g .4, k) refl in
+    (takenSame.opened-same r (takenOpened.Ring (openedWorld o .cons)) (ap (λ (x : takenFresh.Open). x .answer) (p ∙ e) ∙ taken-answer o), ap (λ (x : takenFresh.Open). x .counts) (p ∙ e))
