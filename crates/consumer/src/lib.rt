@@ -340,7 +340,6 @@ impl RingConsumer {
         Answered::Done(fresh(layout))
     }
 
-    // Nothing is written where the shadow already says so.
     fn turned(self, ring: &mut [u8], flags: u16) -> Answered
         ensures { λ r. ⌜ changed (answerOf r) (recordOf r) (now (ring .exit)) ≡ turnOf self (now (ring .entry)) flags ⌝ }
     {
@@ -348,10 +347,7 @@ impl RingConsumer {
         if no != 0 {
             return Answered::Refused(RingError::numbered(no), self);
         }
-        if self.shadow == flags {
-            return Answered::Done(self);
-        }
-        ring::turn(ring, self.layout.device, flags);
+        ring::turn(ring, self.layout.device, self.shadow, flags);
         Answered::Done(self.shadowed(flags))
     }
 

@@ -11,7 +11,7 @@ use lib.ListN.{length}
 use borrow.Author.Tests.{le-ltb, le-leb}
 use Rattle.base.specs.Answer.{Answer, done, refused}
 use Rattle.base.specs.Bytes.{getOf}
-use Rattle.base.proofs.Tests.{by-lt, by-eq}
+use Rattle.base.proofs.Tests.{by-lt}
 use Rattle.cursor.specs.declared.RingCursor.{RingCursor}
 use Rattle.layout.specs.declared.Layout.{Layout}
 use Rattle.layout.specs.Layout.{badLayout, tableBytes}
@@ -20,7 +20,7 @@ use Rattle.ring.specs.Slots.{placeOf}
 use Rattle.ring.specs.Events.{turned, armed}
 use Rattle.ring.specs.Asked.{askOf}
 use Rattle.ring.proofs.Asked.{ask-good}
-use Rattle.ring.proofs.Frames.{Clear, slot-by-bytes, turned-length, turned-clear, armed-length, armed-clear}
+use Rattle.ring.proofs.Frames.{Clear, slot-by-bytes, turned-alone, armed-alone}
 use Rattle.producer.specs.declared.RingProducer.{RingProducer}
 use Rattle.producer.specs.Record as made
 use Rattle.producer.specs.Outcome as madeOutcome
@@ -111,26 +111,21 @@ module _ (l : Layout) (laid-out : badLayout l ≡ false) where
     pub turn-used-good : (f : ℕ) → Good l q (saysQuiet true (usedNotices.turnOf (w .prod) (w .ring) f .answer)) (afterUsedTurn w (usedNotices.turnOf (w .prod) (w .ring) f))
     turn-used-good f =
         let z = makes.bytes-goes (w .prod) (length (w .ring)) (p-sound l laid-out ret w q k) (p-whole l laid-out ret w q k) in
-        by-eq (w .prod .shadow) f
-        (λ s.
-        let e = usedLaws.turn-kept (w .prod) (w .ring) f z s in
-        good-by l q _ (said.looked said.quiet) _ w (ap (λ (o : madeOutcome.Changed). saysQuiet true (o .answer)) e) (ap (afterUsedTurn w) e) (quiet w k))
-        (λ s.
-        let r = turned (w .prod .layout .driver) f (w .ring) in
-        let e = usedLaws.turn-done (w .prod) (w .ring) f z s ∙ ap (λ (p : RingProducer). madeOutcome.changed (done []) p r) (makes.shadow-is (w .prod) f) in
+        let r = turned (w .prod .layout .driver) (w .prod .shadow) f (w .ring) in
+        let e = usedLaws.notice-done (w .prod) (w .ring) f r z ∙ ap (λ (p : RingProducer). madeOutcome.changed (done []) p r) (makes.shadow-is (w .prod) f) in
+        let o = turned-alone (w .prod .layout .driver) (w .ring) (w .prod .shadow) f in
         good-by l q _ (said.looked said.quiet) _ (with-prod f r) (ap (λ (o : madeOutcome.Changed). saysQuiet true (o .answer)) e) (ap (afterUsedTurn w) e)
-        (used-quiet f r (turned-length (w .prod .layout .driver) (w .ring) f)
-        (λ p. turned-clear (w .prod .layout .driver) (w .ring) f (placeOf (l .table) (pos size p)) 16 (event-clear (w .prod .layout .driver) p driver-apart))))
+        (used-quiet f r (o .same-length) (λ p. o .clear (placeOf (l .table) (pos size p)) 16 (event-clear (w .prod .layout .driver) p driver-apart)))
 
     pub arm-used-good :
         (o : ℕ) (b : Bool) → Good l q (saysQuiet true (usedNotices.armOf (w .prod) (w .ring) o b .answer)) (afterUsedTurn w (usedNotices.armOf (w .prod) (w .ring) o b))
     arm-used-good o b =
         let z = makes.bytes-goes (w .prod) (length (w .ring)) (p-sound l laid-out ret w q k) (p-whole l laid-out ret w q k) in
         let r = armed (w .prod .layout .driver) o b (w .ring) in
-        let e = usedLaws.arm-done (w .prod) (w .ring) o b z ∙ ap (λ (p : RingProducer). madeOutcome.changed (done []) p r) (makes.shadow-is (w .prod) DESC) in
+        let a = armed-alone (w .prod .layout .driver) (w .ring) o b in
+        let e = usedLaws.notice-done (w .prod) (w .ring) DESC r z ∙ ap (λ (p : RingProducer). madeOutcome.changed (done []) p r) (makes.shadow-is (w .prod) DESC) in
         good-by l q _ (said.looked said.quiet) _ (with-prod DESC r) (ap (λ (x : madeOutcome.Changed). saysQuiet true (x .answer)) e) (ap (afterUsedTurn w) e)
-        (used-quiet DESC r (armed-length (w .prod .layout .driver) (w .ring) o b)
-        (λ p. armed-clear (w .prod .layout .driver) (w .ring) o b (placeOf (l .table) (pos size p)) 16 (event-clear (w .prod .layout .driver) p driver-apart)))
+        (used-quiet DESC r (a .same-length) (λ p. a .clear (placeOf (l .table) (pos size p)) 16 (event-clear (w .prod .layout .driver) p driver-apart)))
 
     -- ---- the device's
     device-apart : Apart (l .table) (tableBytes l) (w .cons .layout .device) 4
@@ -158,23 +153,18 @@ module _ (l : Layout) (laid-out : badLayout l ≡ false) where
     pub turn-avail-good : (f : ℕ) → Good l q (saysQuiet true (availNotices.turnOf (w .cons) (w .ring) f .answer)) (afterAvailTurn w (availNotices.turnOf (w .cons) (w .ring) f))
     turn-avail-good f =
         let z = takes.bytes-goes (w .cons) (length (w .ring)) (c-sound l laid-out ret w q k) (c-whole l laid-out ret w q k) in
-        by-eq (w .cons .shadow) f
-        (λ s.
-        let e = availLaws.turn-kept (w .cons) (w .ring) f z s in
-        good-by l q _ (said.looked said.quiet) _ w (ap (λ (o : takenOutcome.Changed). saysQuiet true (o .answer)) e) (ap (afterAvailTurn w) e) (quiet w k))
-        (λ s.
-        let r = turned (w .cons .layout .device) f (w .ring) in
-        let e = availLaws.turn-done (w .cons) (w .ring) f z s ∙ ap (λ (p : RingConsumer). takenOutcome.changed (done []) p r) (takes.shadow-is (w .cons) f) in
+        let r = turned (w .cons .layout .device) (w .cons .shadow) f (w .ring) in
+        let e = availLaws.notice-done (w .cons) (w .ring) f r z ∙ ap (λ (p : RingConsumer). takenOutcome.changed (done []) p r) (takes.shadow-is (w .cons) f) in
+        let o = turned-alone (w .cons .layout .device) (w .ring) (w .cons .shadow) f in
         good-by l q _ (said.looked said.quiet) _ (with-cons f r) (ap (λ (o : takenOutcome.Changed). saysQuiet true (o .answer)) e) (ap (afterAvailTurn w) e)
-        (avail-quiet f r (turned-length (w .cons .layout .device) (w .ring) f)
-        (λ p. turned-clear (w .cons .layout .device) (w .ring) f (placeOf (l .table) (pos size p)) 16 (event-clear (w .cons .layout .device) p device-apart))))
+        (avail-quiet f r (o .same-length) (λ p. o .clear (placeOf (l .table) (pos size p)) 16 (event-clear (w .cons .layout .device) p device-apart)))
 
     pub arm-avail-good :
         (o : ℕ) (b : Bool) → Good l q (saysQuiet true (availNotices.armOf (w .cons) (w .ring) o b .answer)) (afterAvailTurn w (availNotices.armOf (w .cons) (w .ring) o b))
     arm-avail-good o b =
         let z = takes.bytes-goes (w .cons) (length (w .ring)) (c-sound l laid-out ret w q k) (c-whole l laid-out ret w q k) in
         let r = armed (w .cons .layout .device) o b (w .ring) in
-        let e = availLaws.arm-done (w .cons) (w .ring) o b z ∙ ap (λ (p : RingConsumer). takenOutcome.changed (done []) p r) (takes.shadow-is (w .cons) DESC) in
+        let a = armed-alone (w .cons .layout .device) (w .ring) o b in
+        let e = availLaws.notice-done (w .cons) (w .ring) DESC r z ∙ ap (λ (p : RingConsumer). takenOutcome.changed (done []) p r) (takes.shadow-is (w .cons) DESC) in
         good-by l q _ (said.looked said.quiet) _ (with-cons DESC r) (ap (λ (x : takenOutcome.Changed). saysQuiet true (x .answer)) e) (ap (afterAvailTurn w) e)
-        (avail-quiet DESC r (armed-length (w .cons .layout .device) (w .ring) o b)
-        (λ p. armed-clear (w .cons .layout .device) (w .ring) o b (placeOf (l .table) (pos size p)) 16 (event-clear (w .cons .layout .device) p device-apart)))
+        (avail-quiet DESC r (a .same-length) (λ p. a .clear (placeOf (l .table) (pos size p)) 16 (event-clear (w .cons .layout .device) p device-apart)))

@@ -367,7 +367,6 @@ impl RingProducer {
         Turned::Done(fresh(layout))
     }
 
-    // Nothing is written where the shadow already says so.
     fn turned(self, ring: &mut [u8], flags: u16) -> Turned
         ensures { λ r. ⌜ changed (turnAnswer r) (turnRecord r) (now (ring .exit)) ≡ turnOf self (now (ring .entry)) flags ⌝ }
     {
@@ -375,10 +374,7 @@ impl RingProducer {
         if no != 0 {
             return Turned::Refused(RingError::numbered(no), self);
         }
-        if self.shadow == flags {
-            return Turned::Done(self);
-        }
-        ring::turn(ring, self.layout.driver, flags);
+        ring::turn(ring, self.layout.driver, self.shadow, flags);
         Turned::Done(self.shadowed(flags))
     }
 
