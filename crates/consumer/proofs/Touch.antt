@@ -25,7 +25,7 @@ use Rattle.consumer.specs.declared.RingConsumer.{RingConsumer}
 use Rattle.consumer.specs.declared.Checkpoint.{Checkpoint}
 use Rattle.consumer.specs.Record.{bytesRefusal, lentRefusal}
 use Rattle.consumer.specs.Outcome.{Outcome, Changed}
-use Rattle.consumer.specs.Poll.{Taken, headRefusal, walkRefusal, walkedOf, headOf, takenOf, pollOf}
+use Rattle.consumer.specs.Poll.{Taken, headRefusal, walkRefusal, walkedOf, headOf, polledOf, pollOf}
 use Rattle.consumer.specs.Complete.{completeRefusal, completeOf}
 use Rattle.consumer.specs.Rollback.{rollbackOf, rollbackRefusal}
 use Rattle.consumer.specs.Notices.{noticeOf, turnOf, armOf}
@@ -47,15 +47,15 @@ module _ (p : RingConsumer) (ring counts addrs lens : List ℕ)
   read A = map A (slotsFrom (p .layout .table) (p .layout .size) ring (p .avail) (walkedOf p ring .count))
 
   pub poll-counts : took .counts ≡ set counts (headOf p ring .id) (walkedOf p ring .count)
-  unfolding takenOf
+  unfolding polledOf
   poll-counts = ap (λ (o : Taken). o .counts) (poll-taken p ring counts addrs lens h k)
 
   pub poll-addrs : took .addrs ≡ sets addrs 0 (read addrOf)
-  unfolding takenOf
+  unfolding polledOf
   poll-addrs = ap (λ (o : Taken). o .addrs) (poll-taken p ring counts addrs lens h k)
 
   pub poll-lens : took .lens ≡ sets lens 0 (read lenOf)
-  unfolding takenOf
+  unfolding polledOf
   poll-lens = ap (λ (o : Taken). o .lens) (poll-taken p ring counts addrs lens h k)
 
   pub poll-count-other : (i : ℕ) → (i ≡ headOf p ring .id → ⊥) → getD (took .counts) i 0 ≡ getD counts i 0

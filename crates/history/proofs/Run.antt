@@ -238,7 +238,7 @@ history = said.reclaimed (done 1 70) ∷ said.completed (done 1 70) ∷ said.pol
 -- ---- computed over the ring's bytes
 
 pub answers : historyOf packed world-three calls ≡ history
-unfolding historyOf worldOf says leaves ownSays ownLeaves bytesOf wordAt putOf getOf step steps isAvail isUsed encodeOf decodeOf markAvail markUsed event.setFlags event.encodeOf event.decodeOf notifyOf apart badLayout outside badChain slotOf slotPut upFrom turned told askOf lookOf walkOf slotsFrom named badIds totalOf clearedOf madeRecord.badRecord madeRecord.badLent makes.submitRefusal makes.elementOf makes.putTails makes.putChain makes.takenOf makes.submittedOf makes.submitOf madeTold.tellOf usedPoll.pollRefusal usedPoll.freedOf usedPoll.polledOf usedPoll.pollOf usedPoll.nextRefusal usedPoll.nextOf usedNotices.bytesRefusal usedNotices.shadowOf usedNotices.noticeOf madeFresh.freshOf madeFresh.openOf takenRecord.badRecord takenRecord.badLent takenRecord.bytesRefusal takes.headRefusal takes.walkRefusal takes.pollRefusal takes.pastOf takes.takenOf takes.pollOf takes.peekOf completeRefusal completedOf completeOf tellOf handedRefusal staleOf rollbackRefusal backOf rollbackOf takenFresh.freshOf takenFresh.openOf
+unfolding historyOf worldOf says leaves ownSays ownLeaves bytesOf wordAt putOf getOf step steps isAvail isUsed encodeOf decodeOf markAvail markUsed event.setFlags event.encodeOf event.decodeOf notifyOf apart badLayout outside badChain slotOf slotPut upFrom turned told askOf lookOf walkOf slotsFrom named badIds totalOf clearedOf madeRecord.badRecord madeRecord.badLent makes.submitRefusal makes.elementOf makes.putTails makes.putChain makes.takenOf makes.submittedOf makes.submitOf madeTold.tellOf usedPoll.pollRefusal usedPoll.freedOf usedPoll.polledOf usedPoll.pollOf usedPoll.nextRefusal usedPoll.nextOf madeRecord.bytesRefusal usedNotices.shadowOf usedNotices.noticeOf madeFresh.freshOf madeFresh.openOf takenRecord.badRecord takenRecord.badLent takenRecord.bytesRefusal takes.headRefusal takes.walkRefusal takes.pollRefusal takes.pastOf takes.polledOf takes.pollOf takes.peekOf completeRefusal completedOf completeOf tellOf handedRefusal staleOf rollbackRefusal backOf rollbackOf takenFresh.freshOf takenFresh.openOf
 answers = refl
 
 -- the cursors: fresh, they wrap when a and b are out, and the used ones when a and b came back; at the end each has gone round three times
@@ -275,7 +275,7 @@ pub record Cursors : Type 0 where
   pub not-told : tellOf (turned-off .cons .used) (completeOf (turned-off .cons) (turned-off .ring) (turned-off .held) 1 64) .answer ≡ answer.done (0 ∷ [])
 
 pub cursors : Cursors
-unfolding historyOf worldOf says leaves ownSays ownLeaves bytesOf wordAt putOf getOf step steps isAvail isUsed encodeOf decodeOf markAvail markUsed event.setFlags event.encodeOf event.decodeOf notifyOf apart badLayout outside badChain slotOf slotPut upFrom turned told askOf lookOf walkOf slotsFrom named badIds totalOf clearedOf madeRecord.badRecord madeRecord.badLent makes.submitRefusal makes.elementOf makes.putTails makes.putChain makes.takenOf makes.submittedOf makes.submitOf madeTold.tellOf usedPoll.pollRefusal usedPoll.freedOf usedPoll.polledOf usedPoll.pollOf usedPoll.nextRefusal usedPoll.nextOf usedNotices.bytesRefusal usedNotices.shadowOf usedNotices.noticeOf madeFresh.freshOf madeFresh.openOf takenRecord.badRecord takenRecord.badLent takenRecord.bytesRefusal takes.headRefusal takes.walkRefusal takes.pollRefusal takes.pastOf takes.takenOf takes.pollOf takes.peekOf completeRefusal completedOf completeOf tellOf handedRefusal staleOf rollbackRefusal backOf rollbackOf takenFresh.freshOf takenFresh.openOf
+unfolding historyOf worldOf says leaves ownSays ownLeaves bytesOf wordAt putOf getOf step steps isAvail isUsed encodeOf decodeOf markAvail markUsed event.setFlags event.encodeOf event.decodeOf notifyOf apart badLayout outside badChain slotOf slotPut upFrom turned told askOf lookOf walkOf slotsFrom named badIds totalOf clearedOf madeRecord.badRecord madeRecord.badLent makes.submitRefusal makes.elementOf makes.putTails makes.putChain makes.takenOf makes.submittedOf makes.submitOf madeTold.tellOf usedPoll.pollRefusal usedPoll.freedOf usedPoll.polledOf usedPoll.pollOf usedPoll.nextRefusal usedPoll.nextOf madeRecord.bytesRefusal usedNotices.shadowOf usedNotices.noticeOf madeFresh.freshOf madeFresh.openOf takenRecord.badRecord takenRecord.badLent takenRecord.bytesRefusal takes.headRefusal takes.walkRefusal takes.pollRefusal takes.pastOf takes.polledOf takes.pollOf takes.peekOf completeRefusal completedOf completeOf tellOf handedRefusal staleOf rollbackRefusal backOf rollbackOf takenFresh.freshOf takenFresh.openOf
 cursors =
     record {
       producer-avail = refl;

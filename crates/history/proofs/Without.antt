@@ -104,7 +104,7 @@ abbrev older : History Checkpoint
 older = said.looked (said.refused said.reclaim true 5) ∷ older-twice
 
 pub older-answers : historyOf packed world-two older-calls ≡ older
-unfolding historyOf worldOf says leaves ownSays ownLeaves bytesOf wordAt putOf getOf step steps isAvail isUsed encodeOf decodeOf markAvail markUsed apart badLayout outside badChain slotOf slotPut upFrom askOf lookOf walkOf slotsFrom named badIds totalOf clearedOf madeRecord.badRecord madeRecord.badLent makes.submitRefusal makes.elementOf makes.putTails makes.putChain makes.takenOf makes.submittedOf makes.submitOf usedPoll.pollRefusal usedPoll.freedOf usedPoll.polledOf usedPoll.pollOf madeFresh.freshOf madeFresh.openOf takenRecord.badRecord takenRecord.badLent takes.headRefusal takes.walkRefusal takes.pollRefusal takes.pastOf takes.takenOf takes.pollOf completeRefusal completedOf completeOf handedRefusal staleOf rollbackRefusal backOf rollbackOf takenFresh.freshOf takenFresh.openOf
+unfolding historyOf worldOf says leaves ownSays ownLeaves bytesOf wordAt putOf getOf step steps isAvail isUsed encodeOf decodeOf markAvail markUsed apart badLayout outside badChain slotOf slotPut upFrom askOf lookOf walkOf slotsFrom named badIds totalOf clearedOf madeRecord.badRecord madeRecord.badLent makes.submitRefusal makes.elementOf makes.putTails makes.putChain makes.takenOf makes.submittedOf makes.submitOf usedPoll.pollRefusal usedPoll.freedOf usedPoll.polledOf usedPoll.pollOf madeFresh.freshOf madeFresh.openOf takenRecord.badRecord takenRecord.badLent takes.headRefusal takes.walkRefusal takes.pollRefusal takes.pastOf takes.polledOf takes.pollOf completeRefusal completedOf completeOf handedRefusal staleOf rollbackRefusal backOf rollbackOf takenFresh.freshOf takenFresh.openOf
 older-answers = refl
 
 -- the other clauses hold: the checkpoint was taken, no completion came since, and the list names as many polls as came
@@ -179,7 +179,7 @@ between-history =
     ∷ []
 
 pub between-answers : historyOf packed world-two between-calls ≡ between-history
-unfolding historyOf worldOf says leaves ownSays ownLeaves bytesOf wordAt putOf getOf step steps isAvail isUsed encodeOf decodeOf markAvail markUsed apart badLayout outside badChain slotOf slotPut upFrom askOf lookOf walkOf slotsFrom named badIds totalOf clearedOf madeRecord.badRecord madeRecord.badLent makes.submitRefusal makes.elementOf makes.putTails makes.putChain makes.takenOf makes.submittedOf makes.submitOf usedPoll.pollRefusal usedPoll.freedOf usedPoll.polledOf usedPoll.pollOf madeFresh.freshOf madeFresh.openOf takenRecord.badRecord takenRecord.badLent takes.headRefusal takes.walkRefusal takes.pollRefusal takes.pastOf takes.takenOf takes.pollOf completeRefusal completedOf completeOf handedRefusal staleOf rollbackRefusal backOf rollbackOf takenFresh.freshOf takenFresh.openOf
+unfolding historyOf worldOf says leaves ownSays ownLeaves bytesOf wordAt putOf getOf step steps isAvail isUsed encodeOf decodeOf markAvail markUsed apart badLayout outside badChain slotOf slotPut upFrom askOf lookOf walkOf slotsFrom named badIds totalOf clearedOf madeRecord.badRecord madeRecord.badLent makes.submitRefusal makes.elementOf makes.putTails makes.putChain makes.takenOf makes.submittedOf makes.submitOf usedPoll.pollRefusal usedPoll.freedOf usedPoll.polledOf usedPoll.pollOf madeFresh.freshOf madeFresh.openOf takenRecord.badRecord takenRecord.badLent takes.headRefusal takes.walkRefusal takes.pollRefusal takes.pastOf takes.polledOf takes.pollOf completeRefusal completedOf completeOf handedRefusal staleOf rollbackRefusal backOf rollbackOf takenFresh.freshOf takenFresh.openOf
 between-answers = refl
 
 -- so nothing goes wrong: a rollback that is refused changes nothing, and nothing is asked of it
@@ -277,7 +277,7 @@ abbrev stale : History Checkpoint
 stale = said.looked (said.refused said.reclaim true 5) ∷ stale-last
 
 pub stale-answers : historyOf packed world-two stale-calls ≡ stale
-unfolding historyOf worldOf says leaves ownSays ownLeaves bytesOf wordAt putOf getOf step steps isAvail isUsed encodeOf decodeOf markAvail markUsed apart badLayout outside badChain slotOf slotPut upFrom askOf lookOf walkOf slotsFrom named badIds totalOf clearedOf madeRecord.badRecord madeRecord.badLent makes.submitRefusal makes.elementOf makes.putTails makes.putChain makes.takenOf makes.submittedOf makes.submitOf usedPoll.pollRefusal usedPoll.freedOf usedPoll.polledOf usedPoll.pollOf madeFresh.freshOf madeFresh.openOf takenRecord.badRecord takenRecord.badLent takes.headRefusal takes.walkRefusal takes.pollRefusal takes.pastOf takes.takenOf takes.pollOf completeRefusal completedOf completeOf handedRefusal staleOf rollbackRefusal backOf rollbackOf takenFresh.freshOf takenFresh.openOf
+unfolding historyOf worldOf says leaves ownSays ownLeaves bytesOf wordAt putOf getOf step steps isAvail isUsed encodeOf decodeOf markAvail markUsed apart badLayout outside badChain slotOf slotPut upFrom askOf lookOf walkOf slotsFrom named badIds totalOf clearedOf madeRecord.badRecord madeRecord.badLent makes.submitRefusal makes.elementOf makes.putTails makes.putChain makes.takenOf makes.submittedOf makes.submitOf usedPoll.pollRefusal usedPoll.freedOf usedPoll.polledOf usedPoll.pollOf madeFresh.freshOf madeFresh.openOf takenRecord.badRecord takenRecord.badLent takes.headRefusal takes.walkRefusal takes.pollRefusal takes.pastOf takes.polledOf takes.pollOf completeRefusal completedOf completeOf handedRefusal staleOf rollbackRefusal backOf rollbackOf takenFresh.freshOf takenFresh.openOf
 stale-answers = refl
 
 -- the checkpoint was taken, and the list names exactly the polls since that are still held
@@ -356,7 +356,7 @@ abbrev forged : History Checkpoint
 forged = said.polled half ∷ forged-rolled
 
 pub forged-answers : historyOf packed world-three forged-calls ≡ forged
-unfolding historyOf worldOf says leaves ownSays ownLeaves bytesOf wordAt putOf getOf step steps isAvail isUsed encodeOf decodeOf markAvail markUsed apart badLayout outside badChain slotOf slotPut upFrom askOf lookOf walkOf slotsFrom named badIds totalOf clearedOf madeRecord.badRecord madeRecord.badLent makes.submitRefusal makes.elementOf makes.putTails makes.putChain makes.takenOf makes.submittedOf makes.submitOf usedPoll.pollRefusal usedPoll.freedOf usedPoll.polledOf usedPoll.pollOf madeFresh.freshOf madeFresh.openOf takenRecord.badRecord takenRecord.badLent takes.headRefusal takes.walkRefusal takes.pollRefusal takes.pastOf takes.takenOf takes.pollOf completeRefusal completedOf completeOf handedRefusal staleOf rollbackRefusal backOf rollbackOf takenFresh.freshOf takenFresh.openOf
+unfolding historyOf worldOf says leaves ownSays ownLeaves bytesOf wordAt putOf getOf step steps isAvail isUsed encodeOf decodeOf markAvail markUsed apart badLayout outside badChain slotOf slotPut upFrom askOf lookOf walkOf slotsFrom named badIds totalOf clearedOf madeRecord.badRecord madeRecord.badLent makes.submitRefusal makes.elementOf makes.putTails makes.putChain makes.takenOf makes.submittedOf makes.submitOf usedPoll.pollRefusal usedPoll.freedOf usedPoll.polledOf usedPoll.pollOf madeFresh.freshOf madeFresh.openOf takenRecord.badRecord takenRecord.badLent takes.headRefusal takes.walkRefusal takes.pollRefusal takes.pastOf takes.polledOf takes.pollOf completeRefusal completedOf completeOf handedRefusal staleOf rollbackRefusal backOf rollbackOf takenFresh.freshOf takenFresh.openOf
 forged-answers = refl
 
 -- the slots of the second of some chains
@@ -396,7 +396,7 @@ abbrev inner : History Checkpoint
 inner = said.looked (said.refused said.poll true 5) ∷ inner-rolled
 
 pub inner-answers : historyOf packed world-three inner-calls ≡ inner
-unfolding historyOf worldOf says leaves ownSays ownLeaves bytesOf wordAt putOf getOf step steps isAvail isUsed encodeOf decodeOf markAvail markUsed apart badLayout outside badChain slotOf slotPut upFrom askOf lookOf walkOf slotsFrom named badIds totalOf clearedOf madeRecord.badRecord madeRecord.badLent makes.submitRefusal makes.elementOf makes.putTails makes.putChain makes.takenOf makes.submittedOf makes.submitOf usedPoll.pollRefusal usedPoll.freedOf usedPoll.polledOf usedPoll.pollOf madeFresh.freshOf madeFresh.openOf takenRecord.badRecord takenRecord.badLent takes.headRefusal takes.walkRefusal takes.pollRefusal takes.pastOf takes.takenOf takes.pollOf completeRefusal completedOf completeOf handedRefusal staleOf rollbackRefusal backOf rollbackOf takenFresh.freshOf takenFresh.openOf
+unfolding historyOf worldOf says leaves ownSays ownLeaves bytesOf wordAt putOf getOf step steps isAvail isUsed encodeOf decodeOf markAvail markUsed apart badLayout outside badChain slotOf slotPut upFrom askOf lookOf walkOf slotsFrom named badIds totalOf clearedOf madeRecord.badRecord madeRecord.badLent makes.submitRefusal makes.elementOf makes.putTails makes.putChain makes.takenOf makes.submittedOf makes.submitOf usedPoll.pollRefusal usedPoll.freedOf usedPoll.polledOf usedPoll.pollOf madeFresh.freshOf madeFresh.openOf takenRecord.badRecord takenRecord.badLent takes.headRefusal takes.walkRefusal takes.pollRefusal takes.pastOf takes.polledOf takes.pollOf completeRefusal completedOf completeOf handedRefusal staleOf rollbackRefusal backOf rollbackOf takenFresh.freshOf takenFresh.openOf
 inner-answers = refl
 
 pub inner-wrong : Right 3 inner-rolled (said.looked (said.refused said.poll true 5)) → ⊥

@@ -14,6 +14,7 @@ use Rattle.base.specs.Answer.{Answer, refused}
 use Rattle.base.proofs.Tests.{split, by-eq}
 use Rattle.event.specs.Event.{DESC}
 use Rattle.ring.specs.Slots.{slotOf}
+use Rattle.producer.specs.Record as madeRecord
 use Rattle.producer.specs.Outcome as made
 use Rattle.producer.specs.Submit.{submitRefusal}
 use Rattle.producer.specs.Poll as usedPoll
@@ -83,7 +84,7 @@ module _ (w : World) where
 
   notice-used-kept : (f : ℕ) (bytes : List ℕ) → (usedNotices.noticeOf (w .prod) (w .ring) f bytes .answer .number ≡ 0 → ⊥) → afterUsedTurn w (usedNotices.noticeOf (w .prod) (w .ring) f bytes) ≡ w
   notice-used-kept f bytes h =
-      kept (usedNotices.noticeOf (w .prod) (w .ring) f bytes .answer) (usedNotices.bytesRefusal (w .prod) (length (w .ring))) w (afterUsedTurn w (usedNotices.noticeOf (w .prod) (w .ring) f bytes))
+      kept (usedNotices.noticeOf (w .prod) (w .ring) f bytes .answer) (madeRecord.bytesRefusal (w .prod) (length (w .ring))) w (afterUsedTurn w (usedNotices.noticeOf (w .prod) (w .ring) f bytes))
       (λ z. ap (λ (o : made.Changed). o .answer .number) (usedLaws.notice-done (w .prod) (w .ring) f bytes z))
       (λ z. ap (afterUsedTurn w) (usedLaws.notice-refused (w .prod) (w .ring) f bytes z)) h
 

@@ -13,26 +13,15 @@ use Rattle.cursor.specs.declared.RingCursor.{RingCursor}
 use Rattle.layout.specs.Layout.{outside}
 use Rattle.layout.proofs.Laws.{Within, within}
 use Rattle.producer.specs.declared.RingProducer.{RingProducer}
-use Rattle.producer.specs.Record.{badRecord}
+use Rattle.producer.specs.Record.{badRecord, bytesRefusal}
 use Rattle.producer.specs.Outcome.{changed}
 use Rattle.producer.proofs.Ready.{Sound, sound}
 use Rattle.base.proofs.Tests.{neither}
 use Rattle.base.proofs.Ladder.{passed, cond-lt}
 use Rattle.ring.specs.Events.{told}
-use Rattle.producer.specs.Notices.{bytesRefusal, sinceRefusal, shadowOf, noticeOf, sinceOf}
+use Rattle.producer.specs.Notices.{sinceRefusal, shadowOf, noticeOf, sinceOf}
 
--- what a call that is lent the bytes alone may count on, and one that is handed a cursor too
-pub record BytesReady (p : RingProducer) (bytes : ℕ) : Type 0 where
-  pub sound : Sound p
-  pub bytes-whole : Within (p .layout) bytes
-
-pub bytes-ready : (p : RingProducer) (bytes : ℕ) → bytesRefusal p bytes ≡ 0 → BytesReady p bytes
-unfolding bytesRefusal
-bytes-ready p bytes e =
-    let e₁ = passed (badRecord p) 7 _ (omega arith) e in
-    let e₂ = passed (outside (p .layout) bytes) 8 0 (omega arith) (e₁ .1) in
-    record { sound = sound p (e₁ .0); bytes-whole = within (p .layout) bytes (e₂ .0) }
-
+-- what a call that is lent the bytes and handed a cursor may count on
 pub record SinceReady (p : RingProducer) (bytes : ℕ) (old : RingCursor) : Type 0 where
   pub sound : Sound p
   pub old-below : old .head < p .layout .size
@@ -49,11 +38,6 @@ since-ready p bytes old e =
       old-below = leb-false (p .layout .size) (old .head) (a .1);
       bytes-whole = within (p .layout) bytes (e₂ .0);
     }
-
-pub bytes-below : (p : RingProducer) (bytes : ℕ) → bytesRefusal p bytes < 9
-unfolding bytesRefusal
-bytes-below p bytes =
-    cond-lt (badRecord p) 7 _ (omega arith) (cond-lt (outside (p .layout) bytes) 8 0 (omega arith) (omega arith))
 
 pub since-below : (p : RingProducer) (bytes : ℕ) (old : RingCursor) → sinceRefusal p bytes old < 9
 unfolding sinceRefusal

@@ -21,13 +21,13 @@ use Rattle.ring.specs.Tables.{upTo}
 use Rattle.ring.proofs.Laws.{up-length}
 use Rattle.ring.proofs.Frames.{Clear, put-length, put-clear, EventAlone, event-kept, turned-alone, armed-alone, sets-behind}
 use Rattle.producer.specs.declared.RingProducer.{RingProducer}
+use Rattle.producer.specs.Record.{bytesRefusal, lentRefusal}
 use Rattle.producer.specs.Outcome.{Outcome, Changed}
 use Rattle.producer.specs.Submit.{topOf, submitRefusal, elementOf, putChain, submittedOf, submitOf}
 use Rattle.producer.specs.Poll.{pollRefusal, polledOf, pollOf}
-use Rattle.producer.specs.Notices.{bytesRefusal, noticeOf, turnOf, armOf}
-use Rattle.producer.specs.Fresh.{allRefusal, resetOf}
-use Rattle.producer.proofs.Ready.{Ready, ready}
-use Rattle.producer.proofs.Submit.{submit-done}
+use Rattle.producer.specs.Notices.{noticeOf, turnOf, armOf}
+use Rattle.producer.specs.Fresh.{resetOf}
+use Rattle.producer.proofs.Submit.{SubmitReady, submit-ready, submit-done}
 use Rattle.producer.proofs.Poll.{poll-done}
 use Rattle.producer.proofs.Reset.{reset-done}
 use Rattle.producer.proofs.Frame.{chain-length, chain-clear, chain-keep}
@@ -42,8 +42,8 @@ module _ (p : RingProducer) (ring ids counts addrs lens : List ℕ) (readable : 
   abbrev element : ℕ → Descriptor
   element = elementOf (topOf p ids) addrs lens readable
 
-  is-ready : Ready p (length ring) ids counts (length addrs) (length lens) readable
-  is-ready = ready p (length ring) ids counts (length addrs) (length lens) readable h
+  is-ready : SubmitReady p (length ring) ids counts (length addrs) (length lens) readable
+  is-ready = submit-ready p (length ring) ids counts (length addrs) (length lens) readable h
 
   pub submit-ring : submitted .ring ≡ putChain (p .layout) element (length addrs) (p .avail) ring .bytes
   unfolding submittedOf
@@ -126,7 +126,7 @@ module _ (p : RingProducer) (ring : List ℕ) where
 
 -- ---- an accepted reset: the table, the driver's event area, and the first ring-size entries
 
-module _ (p : RingProducer) (ring ids counts : List ℕ) (h : allRefusal p (length ring) (length ids) (length counts) ≡ 0) where
+module _ (p : RingProducer) (ring ids counts : List ℕ) (h : lentRefusal p (length ring) (length ids) (length counts) ≡ 0) where
   abbrev zeroed : List ℕ
   zeroed = putOf ring (p .layout .table) (replicate (16 * p .layout .size) 0) .bytes
 

@@ -4,21 +4,14 @@ use mathlib.Core.List.{List, [], _∷_}
 use mathlib.Core.Bool.{Bool, cond, _||_}
 use lib.Dec.{leb, eqb}
 use lib.ListN.{length}
-use Rattle.base.specs.Refusals.{numberOf}
 use Rattle.base.specs.Answer.{Answer, done, refused, bit}
 use Rattle.cursor.specs.declared.RingCursor.{RingCursor}
 use Rattle.event.specs.Event.{DESC}
 use Rattle.layout.specs.Layout.{outside}
 use Rattle.ring.specs.Events.{turned, armed, told}
 use Rattle.producer.specs.declared.RingProducer.{RingProducer}
-use Rattle.producer.specs.declared.Turned.{Turned}
-use Rattle.producer.specs.declared.Turned.the-variants.{Done, Refused}
-use Rattle.producer.specs.Record.{badRecord}
+use Rattle.producer.specs.Record.{badRecord, bytesRefusal}
 use Rattle.producer.specs.Outcome.{Changed, changed}
-
--- "7, 8 for all else": the record, then the bytes
-unfoldable pub bytesRefusal : RingProducer → ℕ → ℕ
-bytesRefusal p bytes = cond (badRecord p) 7 (cond (outside (p .layout) bytes) 8 0)
 
 -- 7 also for "a head not below the size, also in an old cursor .. that is handed in"
 unfoldable pub sinceRefusal : RingProducer → ℕ → RingCursor → ℕ
@@ -58,11 +51,3 @@ sinceOf p ring old =
     cond (eqb no 0)
     (done (bit (told (p .layout .device) (p .layout .size) old (p .avail) ring) ∷ []))
     (refused no)
-
-abbrev pub turnAnswer : Turned → Answer
-turnAnswer (Done p) = done []
-turnAnswer (Refused e p) = refused (numberOf e)
-
-abbrev pub turnRecord : Turned → RingProducer
-turnRecord (Done p) = p
-turnRecord (Refused e p) = p

@@ -133,7 +133,7 @@ pub record Exchange : Type 0 where
   pub returned-once : no-more .answer ≡ refused 3
 
 pub exchange : Exchange
-unfolding first-sent sent first second third undone again both complete twice-complete back no-more fresh zeros none addrs lens holding held four opened.freshOf freshOf bytesOf wordAt putOf getOf step steps isAvail isUsed encodeOf decodeOf markAvail markUsed apart badLayout outside badChain slotOf slotPut upFrom lookOf walkOf slotsFrom named badIds totalOf clearedOf made.badRecord made.badLent submitRefusal elementOf putTails putChain takenOf submittedOf submitOf badRecord badLent headRefusal walkRefusal pollRefusal pastOf polls.takenOf pollOf completeRefusal completedOf completeOf handedRefusal staleOf rollbackRefusal backOf rollbackOf reclaims.pollRefusal reclaims.freedOf reclaims.polledOf reclaims.pollOf
+unfolding first-sent sent first second third undone again both complete twice-complete back no-more fresh zeros none addrs lens holding held four opened.freshOf freshOf bytesOf wordAt putOf getOf step steps isAvail isUsed encodeOf decodeOf markAvail markUsed apart badLayout outside badChain slotOf slotPut upFrom lookOf walkOf slotsFrom named badIds totalOf clearedOf made.badRecord made.badLent submitRefusal elementOf putTails putChain takenOf submittedOf submitOf badRecord badLent headRefusal walkRefusal pollRefusal pastOf polls.polledOf pollOf completeRefusal completedOf completeOf handedRefusal staleOf rollbackRefusal backOf rollbackOf reclaims.pollRefusal reclaims.freedOf reclaims.polledOf reclaims.pollOf
 exchange =
     record {
       gets-id-3 = refl;
@@ -201,5 +201,5 @@ pub record Otherwise : Type 0 where
   pub seven-first : pollOf (record { layout = layout 4 0 64 68; avail = at 4 true; used = at 0 true; inflight = 0; shadow = 0 }) [] [] [] [] .answer ≡ refused 7
 
 pub otherwise : Otherwise
-unfolding indirect fresh zeros none addrs lens holding held four opened.freshOf freshOf bytesOf wordAt putOf getOf step steps isAvail encodeOf decodeOf markAvail apart badLayout outside badChain slotOf slotPut upFrom lookOf walkOf slotsFrom named badIds totalOf clearedOf made.badRecord made.badLent submitRefusal elementOf putTails putChain takenOf submittedOf submitOf badRecord badLent headRefusal walkRefusal pollRefusal pastOf polls.takenOf pollOf handedRefusal staleOf rollbackRefusal backOf rollbackOf
+unfolding indirect fresh zeros none addrs lens holding held four opened.freshOf freshOf bytesOf wordAt putOf getOf step steps isAvail encodeOf decodeOf markAvail apart badLayout outside badChain slotOf slotPut upFrom lookOf walkOf slotsFrom named badIds totalOf clearedOf made.badRecord made.badLent submitRefusal elementOf putTails putChain takenOf submittedOf submitOf badRecord badLent headRefusal walkRefusal pollRefusal pastOf polls.polledOf pollOf handedRefusal staleOf rollbackRefusal backOf rollbackOf
 otherwise = record { blocked-first = refl; then-bad = refl; twice = refl; seven-first = refl }

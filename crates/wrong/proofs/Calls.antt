@@ -117,7 +117,7 @@ reclaim = record { call = own pollUsed; typed = tt }
 -- ---- what is unfolded to compute a history over bytes
 
 unfoldable pub computing : Unit {0}
-unfolding worldOf historyOf ownSaysBy ownLeavesBy saysBy leavesBy bytesOf wordAt putOf getOf step steps isAvail isUsed encodeOf decodeOf markAvail markUsed apart badLayout outside badChain slotOf slotPut upFrom lookOf walkOf slotsFrom made.badRecord made.badLent submitRefusal elementOf putTails putChain takenOf submittedOf submitOf usedPoll.pollRefusal usedPoll.freedOf usedPoll.polledOf usedPoll.pollOf opened.freshOf opened.openOf taken.badRecord taken.badLent availPoll.headRefusal availPoll.walkRefusal availPoll.pollRefusal availPoll.pastOf availPoll.takenOf availPoll.pollOf completeRefusal completedOf completeOf freshly.freshOf freshly.openOf
+unfolding worldOf historyOf ownSaysBy ownLeavesBy saysBy leavesBy bytesOf wordAt putOf getOf step steps isAvail isUsed encodeOf decodeOf markAvail markUsed apart badLayout outside badChain slotOf slotPut upFrom lookOf walkOf slotsFrom made.badRecord made.badLent submitRefusal elementOf putTails putChain takenOf submittedOf submitOf usedPoll.pollRefusal usedPoll.freedOf usedPoll.polledOf usedPoll.pollOf opened.freshOf opened.openOf taken.badRecord taken.badLent availPoll.headRefusal availPoll.walkRefusal availPoll.pollRefusal availPoll.pastOf availPoll.polledOf availPoll.pollOf completeRefusal completedOf completeOf freshly.freshOf freshly.openOf
 computing = tt
 
 -- ---- a computed history that meets the premise and breaks the promise refutes the demand

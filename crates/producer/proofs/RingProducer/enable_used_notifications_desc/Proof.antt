@@ -10,7 +10,8 @@ use Rattle.base.proofs.Ladder.{refuses}
 use Rattle.event.specs.Event.{DESC}
 use Rattle.producer.specs.declared.RingProducer.{RingProducer}
 use Rattle.producer.specs.Outcome.{changed}
-use Rattle.producer.proofs.Notices.{bytes-below, notice-refused, notice-done}
+use Rattle.producer.proofs.Ready.{bytes-below}
+use Rattle.producer.proofs.Notices.{notice-refused, notice-done}
 use Rattle.producer.proofs.RingProducer.enable_used_notifications_desc.Statement.{statement}
 use Rattle.producer.proofs.RingProducer.enable_used_notifications_desc.Tie as tie
 

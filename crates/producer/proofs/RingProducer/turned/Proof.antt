@@ -9,7 +9,8 @@ use Rattle.base.specs.Answer.{done, refused}
 use Rattle.base.proofs.Ladder.{refuses}
 use Rattle.producer.specs.declared.RingProducer.{RingProducer}
 use Rattle.producer.specs.Outcome.{changed}
-use Rattle.producer.proofs.Notices.{bytes-below, notice-refused, notice-done}
+use Rattle.producer.proofs.Ready.{bytes-below}
+use Rattle.producer.proofs.Notices.{notice-refused, notice-done}
 use Rattle.producer.proofs.RingProducer.turned.Statement.{statement}
 use Rattle.producer.proofs.RingProducer.turned.Tie as tie
 
