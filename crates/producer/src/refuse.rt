@@ -3,7 +3,6 @@
 // Copyright 2026 The Hyperlight Authors.
 // Translated from src/virtq/ring.rs of hyperlight-common 0.18.0 (the tests of RingProducer's calls) and changed: over lent slices.
 ghost use mathlib.Core.Path.{_≡_};
-ghost use lib.ListN.{length};
 ghost use Rattle.producer.specs.Record.{badRecord, badLent, bytesRefusal, lentRefusal};
 ghost use Rattle.producer.specs.Submit.{submitRefusal};
 ghost use Rattle.producer.specs.Poll.{pollRefusal, nextRefusal};
