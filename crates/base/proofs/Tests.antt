@@ -2,10 +2,10 @@
 -- Assumes nothing.
 use Prim.Native.Nat.{ℕ, _≤_, _<_}
 use mathlib.Core.Path.{_≡_, refl, sym, _∙_}
-use mathlib.Core.Bool.{Bool, true, false, cond, not, _||_}
+use mathlib.Core.Bool.{Bool, true, false, cond, _||_}
 use native.Mathlib.Omega.{arith}
 use lib.Dec.{ltb, leb, eqb}
-use borrow.Author.Tests.{ltb-true, ltb-false, leb-true, le-leb, lt-leb, eqb-true, eqb-false}
+use borrow.Author.Tests.{ltb-true, ltb-false, le-leb, lt-leb, eqb-true, eqb-false}
 
 -- by cases on a test
 pub split : {P : Type 0} (b : Bool) → (b ≡ true → P) → (b ≡ false → P) → P
@@ -41,6 +41,10 @@ same-leb a b c d f g =
     by-lt b a
     (λ l. lt-leb a b l ∙ sym (lt-leb c d (g l)))
     (λ l. le-leb a b l ∙ sym (le-leb c d (f l)))
+
+pub or-true : (b : Bool) → b || true ≡ true
+or-true true = refl
+or-true false = refl
 
 -- neither half of an or holds
 pub neither : (a b : Bool) → a || b ≡ false → (a ≡ false) × (b ≡ false)

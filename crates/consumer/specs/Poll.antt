@@ -1,7 +1,7 @@
 -- A chain polled, and whether there is one (document 01, "What each end does", Consumer).
 use Prim.Native.Nat.{ℕ, _+_}
 use mathlib.Core.List.{List, [], _∷_, map}
-use mathlib.Core.Bool.{Bool, not, cond, _||_}
+use mathlib.Core.Bool.{not, cond, _||_}
 use lib.Dec.{ltb, leb, eqb}
 use lib.ListN.{length, getD, set}
 use lib.Seq.{sets}

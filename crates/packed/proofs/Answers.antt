@@ -3,17 +3,13 @@
 use Prim.Native.Nat.{ℕ, _<_}
 use mathlib.Core.Path.{_≡_, refl, sym, ap, _∙_}
 use mathlib.Core.Bool.{Bool, true, false, not, _&&_, _||_}
-use mathlib.Core.List.{List}
 use native.Mathlib.Omega.{arith}
 use borrow.Author.Tests.{ne-eqb}
-use Rattle.base.specs.Answer.{Answer, done, refused}
+use Rattle.base.specs.Answer.{Answer, refused}
 use Rattle.consumer.specs.declared.Checkpoint.{Checkpoint}
 use Rattle.queue.specs.History.{Event}
 use Rattle.queue.specs.History as said
 use Rattle.packed.specs.Machine.{either, no}
-
-pub either-done : (a : Answer) (vs : List ℕ) (x y : Event Checkpoint) → a ≡ done vs → either a x y ≡ x
-either-done a vs x y e = ap (λ (b : Answer). either b x y) e
 
 pub either-refused :
     (a : Answer) (n : ℕ) (x : Event Checkpoint) (c : said.Call Checkpoint) (g : Bool) → a ≡ refused n → 0 < n

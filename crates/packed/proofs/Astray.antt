@@ -10,7 +10,7 @@ use native.Mathlib.Omega.{arith}
 use lib.Dec.{eqb}
 use lib.ListN.{length}
 use borrow.Author.Tests.{eqb-true}
-use Rattle.base.specs.Answer.{Answer, refused}
+use Rattle.base.specs.Answer.{Answer}
 use Rattle.base.proofs.Tests.{split, by-eq}
 use Rattle.event.specs.Event.{DESC}
 use Rattle.ring.specs.Slots.{slotOf}
@@ -69,7 +69,7 @@ module _ (w : World) where
   tell-kept c h =
       let o = submitsOf w c in
       let a = w .prod .avail in
-      (λ i. record { prod = makes.tell-end a o i; ids = makes.tell-ids a o i; counts = makes.tell-counts a o i; cons = w .cons; held = w .held; ring = makes.tell-ring a o i })
+      ap (afterMade w) (makes.tell-leaves a o)
       ∙ submit-kept c (λ z. h (makes.tell-number a o ∙ z))
 
   reclaim-kept :
@@ -110,7 +110,7 @@ module _ (w : World) where
   complete-tell-kept i n h =
       let o = completeOf (w .cons) (w .ring) (w .held) i n in
       let u = w .cons .used in
-      (λ j. record { prod = w .prod; ids = w .ids; counts = w .counts; cons = takes.tell-end u o j; held = takes.tell-counts u o j; ring = takes.tell-ring u o j })
+      ap (afterCompleted w) (takes.tell-leaves u o)
       ∙ complete-kept i n (λ z. h (takes.tell-number u o ∙ z))
 
   roll-kept : (c : Checkpoint) (js : List ℕ) → (rollbackOf (w .cons) (w .held) c js .answer .number ≡ 0 → ⊥) → afterRolled w (rollbackOf (w .cons) (w .held) c js) ≡ w

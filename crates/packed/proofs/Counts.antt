@@ -74,10 +74,6 @@ hit-same x n = go (eqb x x) (eqb-refl x)
     go true t = refl
     go false t = absurd t
 
-pub hit-le : (x y n : ℕ) → hit x y n ≤ n
-unfolding hit
-hit-le x y n = on-test (λ b. cond b n 0 ≤ n) (eqb x y) (λ t. omega arith) (λ t. omega arith)
-
 pub hit-other : (x y n : ℕ) → x ≢ y → hit x y n ≡ 0
 unfolding hit
 hit-other x y n h = on-test (λ b. (T b → x ≡ y) → cond b n 0 ≡ 0) (eqb x y) (λ t f. absurd (h (f tt))) (λ t f. refl) (λ t. eqb→eq x y t)
@@ -89,26 +85,6 @@ hit-zero x y n h = go (ℕ-discrete x y)
     go : Dec (x ≡ y) → hit x y n ≡ 0
     go (yes e) = let k : hit x y 1 ≡ 1 = rw (← e) (hit-same x 1) in absurd (omega arith)
     go (no e) = hit-other x y n e
-
-pub occ-append : (y : ℕ) (a b : List Held) → occ y (a ++ b) ≡ occ y a + occ y b
-occ-append y [] b = omega arith
-occ-append y (h ∷ a) b = omega (arith, occ-append y a b)
-
-pub slots-append : (y : ℕ) (a b : List Held) → slots y (a ++ b) ≡ slots y a + slots y b
-slots-append y [] b = omega arith
-slots-append y (h ∷ a) b = omega (arith, slots-append y a b)
-
-pub tot-append : (a b : List Held) → tot (a ++ b) ≡ tot a + tot b
-tot-append [] b = omega arith
-tot-append (h ∷ a) b = omega (arith, tot-append a b)
-
-pub ofItems-append : (a b : List Item) → ofItems (a ++ b) ≡ ofItems a ++ ofItems b
-ofItems-append [] b = refl
-ofItems-append (x ∷ a) b = ap (λ (l : List Held). ofItem x ∷ l) (ofItems-append a b)
-
-pub ofUsed-append : (a b : List Used) → ofUsed (a ++ b) ≡ ofUsed a ++ ofUsed b
-ofUsed-append [] b = refl
-ofUsed-append (x ∷ a) b = ap (λ (l : List Held). record { id = x .done .id; n = x .n } ∷ l) (ofUsed-append a b)
 
 pub dones-append : (a b : List Used) → dones (a ++ b) ≡ dones a ++ dones b
 dones-append [] b = refl

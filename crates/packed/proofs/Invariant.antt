@@ -126,9 +126,6 @@ module _ (l : Layout) where
     pub big : 0 < size
     big = laid l laid-out .low
 
-    pub small : size ≤ 32768
-    small = laid l laid-out .high
-
     module _ (ret : List Used) (w : World) (q : Queue Checkpoint) (k : Like ret w q) where
       -- the positions' order
       pub free-slots : w .prod .free + tot (ofItems (q .out)) ≡ size

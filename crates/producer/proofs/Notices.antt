@@ -17,7 +17,7 @@ use Rattle.producer.specs.Record.{badRecord, bytesRefusal}
 use Rattle.producer.specs.Outcome.{changed}
 use Rattle.producer.proofs.Ready.{Sound, sound}
 use Rattle.base.proofs.Tests.{neither}
-use Rattle.base.proofs.Ladder.{passed, cond-lt}
+use Rattle.base.proofs.Ladder.{both-passed, both-below}
 use Rattle.ring.specs.Events.{told}
 use Rattle.producer.specs.Notices.{sinceRefusal, shadowOf, noticeOf, sinceOf}
 
@@ -30,20 +30,17 @@ pub record SinceReady (p : RingProducer) (bytes : ℕ) (old : RingCursor) : Type
 pub since-ready : (p : RingProducer) (bytes : ℕ) (old : RingCursor) → sinceRefusal p bytes old ≡ 0 → SinceReady p bytes old
 unfolding sinceRefusal
 since-ready p bytes old e =
-    let e₁ = passed (badRecord p || leb (p .layout .size) (old .head)) 7 _ (omega arith) e in
-    let e₂ = passed (outside (p .layout) bytes) 8 0 (omega arith) (e₁ .1) in
-    let a = neither (badRecord p) _ (e₁ .0) in
+    let h = both-passed (badRecord p || leb (p .layout .size) (old .head)) (outside (p .layout) bytes) 0 e in
+    let a = neither (badRecord p) _ (h .0) in
     record {
       sound = sound p (a .0);
       old-below = leb-false (p .layout .size) (old .head) (a .1);
-      bytes-whole = within (p .layout) bytes (e₂ .0);
+      bytes-whole = within (p .layout) bytes (h .1 .0);
     }
 
 pub since-below : (p : RingProducer) (bytes : ℕ) (old : RingCursor) → sinceRefusal p bytes old < 9
 unfolding sinceRefusal
-since-below p bytes old =
-    cond-lt (badRecord p || leb (p .layout .size) (old .head)) 7 _ (omega arith)
-    (cond-lt (outside (p .layout) bytes) 8 0 (omega arith) (omega arith))
+since-below p bytes old = both-below (badRecord p || leb (p .layout .size) (old .head)) (outside (p .layout) bytes) 0 (omega arith)
 
 module _ (p : RingProducer) (ring : List ℕ) (flags : ℕ) (bytes : List ℕ) where
   abbrev no : ℕ

@@ -1,12 +1,10 @@
 -- Each answer of the producer, with the record that it hands back, is told by its number and values.
 -- Assumes nothing.
 use Prim.Native.Nat.{ℕ}
-use mathlib.Core.Path.{_≡_, ap, ap₂}
+use mathlib.Core.Path.{_≡_, sym, ap, ap₂}
 use mathlib.Core.List.{List, []}
-use native.Mathlib.Omega.{arith}
-use lib.ListN.{getD}
 use Rattle.base.specs.Answer.{Answer}
-use Rattle.base.proofs.Refusals.{number-low, number-same, bit-same}
+use Rattle.base.proofs.Refusals.{value, not-done, refused-same, bit-same}
 use Rattle.cursor.specs.Cursor.{at}
 use Rattle.layout.specs.Layout.{layout}
 use Rattle.producer.specs.declared.RingProducer.{RingProducer}
@@ -28,42 +26,36 @@ use Rattle.producer.specs.Tell.{toldAnswer, toldRecord}
 use Rattle.producer.specs.Poll.{polledAnswer, polledRecord, nextAnswer}
 use Rattle.producer.specs.Fresh.{Open, opened, openedAnswer}
 
-abbrev number : Answer → ℕ
-number a = a .number
-
-abbrev value : ℕ → Answer → ℕ
-value i a = getD (a .values) i 0
-
 pub submitted-same : (x y : Submitted) → submittedAnswer x ≡ submittedAnswer y → submittedRecord x ≡ submittedRecord y → x ≡ y
 submitted-same (submitted.Id m p) (submitted.Id n q) h r = ap₂ submitted.Id (ap (value 0) h) r
-submitted-same (submitted.Id m p) (submitted.Refused e q) h r = absurd (omega (arith, ap number h, number-low e))
-submitted-same (submitted.Refused e p) (submitted.Id n q) h r = absurd (omega (arith, ap number h, number-low e))
-submitted-same (submitted.Refused e p) (submitted.Refused f q) h r = ap₂ submitted.Refused (number-same e f (ap number h)) r
+submitted-same (submitted.Id m p) (submitted.Refused e q) h r = not-done e _ h
+submitted-same (submitted.Refused e p) (submitted.Id n q) h r = not-done e _ (sym h)
+submitted-same (submitted.Refused e p) (submitted.Refused f q) h r = ap₂ submitted.Refused (refused-same e f h) r
 
 pub told-same : (x y : SubmittedTold) → toldAnswer x ≡ toldAnswer y → toldRecord x ≡ toldRecord y → x ≡ y
 told-same (told.Result a p) (told.Result b q) h r =
     λ i. told.Result (record { id = value 0 (h i); notify = bit-same (a .notify) (b .notify) (ap (value 1) h) i }) (r i)
-told-same (told.Result a p) (told.Refused e q) h r = absurd (omega (arith, ap number h, number-low e))
-told-same (told.Refused e p) (told.Result b q) h r = absurd (omega (arith, ap number h, number-low e))
-told-same (told.Refused e p) (told.Refused f q) h r = ap₂ told.Refused (number-same e f (ap number h)) r
+told-same (told.Result a p) (told.Refused e q) h r = not-done e _ h
+told-same (told.Refused e p) (told.Result b q) h r = not-done e _ (sym h)
+told-same (told.Refused e p) (told.Refused f q) h r = ap₂ told.Refused (refused-same e f h) r
 
 pub polled-same : (x y : PolledUsed) → polledAnswer x ≡ polledAnswer y → polledRecord x ≡ polledRecord y → x ≡ y
 polled-same (polled.Used a p) (polled.Used b q) h r = λ i. polled.Used (record { id = value 0 (h i); len = value 1 (h i) }) (r i)
-polled-same (polled.Used a p) (polled.Refused e q) h r = absurd (omega (arith, ap number h, number-low e))
-polled-same (polled.Refused e p) (polled.Used b q) h r = absurd (omega (arith, ap number h, number-low e))
-polled-same (polled.Refused e p) (polled.Refused f q) h r = ap₂ polled.Refused (number-same e f (ap number h)) r
+polled-same (polled.Used a p) (polled.Refused e q) h r = not-done e _ h
+polled-same (polled.Refused e p) (polled.Used b q) h r = not-done e _ (sym h)
+polled-same (polled.Refused e p) (polled.Refused f q) h r = ap₂ polled.Refused (refused-same e f h) r
 
 pub answered-same : (x y : Answered) → answerOf x ≡ answerOf y → recordOf x ≡ recordOf y → x ≡ y
 answered-same (answered.Done p) (answered.Done q) h r = ap answered.Done r
-answered-same (answered.Done p) (answered.Refused e q) h r = absurd (omega (arith, ap number h, number-low e))
-answered-same (answered.Refused e p) (answered.Done q) h r = absurd (omega (arith, ap number h, number-low e))
-answered-same (answered.Refused e p) (answered.Refused f q) h r = ap₂ answered.Refused (number-same e f (ap number h)) r
+answered-same (answered.Done p) (answered.Refused e q) h r = not-done e _ h
+answered-same (answered.Refused e p) (answered.Done q) h r = not-done e _ (sym h)
+answered-same (answered.Refused e p) (answered.Refused f q) h r = ap₂ answered.Refused (refused-same e f h) r
 
 pub next-same : (x y : NextId) → nextAnswer x ≡ nextAnswer y → x ≡ y
 next-same (next.Id m) (next.Id n) h = ap next.Id (ap (value 0) h)
-next-same (next.Id m) (next.Refused e) h = absurd (omega (arith, ap number h, number-low e))
-next-same (next.Refused e) (next.Id n) h = absurd (omega (arith, ap number h, number-low e))
-next-same (next.Refused e) (next.Refused f) h = ap next.Refused (number-same e f (ap number h))
+next-same (next.Id m) (next.Refused e) h = not-done e _ h
+next-same (next.Refused e) (next.Id n) h = not-done e _ (sym h)
+next-same (next.Refused e) (next.Refused f) h = ap next.Refused (refused-same e f h)
 
 pub opened-same : (x y : Opened) → openedAnswer x ≡ openedAnswer y → x ≡ y
 opened-same (opening.Ring p) (opening.Ring q) h =
@@ -75,9 +67,9 @@ opened-same (opening.Ring p) (opening.Ring q) h =
       height = value 9 (h i);
       shadow = value 10 (h i);
     })
-opened-same (opening.Ring p) (opening.Refused e) h = absurd (omega (arith, ap number h, number-low e))
-opened-same (opening.Refused e) (opening.Ring q) h = absurd (omega (arith, ap number h, number-low e))
-opened-same (opening.Refused e) (opening.Refused f) h = ap opening.Refused (number-same e f (ap number h))
+opened-same (opening.Ring p) (opening.Refused e) h = not-done e _ h
+opened-same (opening.Refused e) (opening.Ring q) h = not-done e _ (sym h)
+opened-same (opening.Refused e) (opening.Refused f) h = ap opening.Refused (refused-same e f h)
 
 -- ---- what is seen of a call: its result, and what it left of what it was lent
 

@@ -10,7 +10,7 @@ use lib.ListN.{length, getD}
 use borrow.Author.Tests.{eq-eqb, ne-eqb, eqb-true, eqb-false, ltb-false, leb-false, not-false}
 use Rattle.base.specs.Answer.{refused}
 use Rattle.base.proofs.Tests.{neither, positive}
-use Rattle.base.proofs.Ladder.{passed, cond-lt}
+use Rattle.base.proofs.Ladder.{passed, both-passed, cond-lt, both-below}
 use Rattle.chain.specs.Chain.{badChain}
 use Rattle.chain.proofs.Laws.{Good, good}
 use Rattle.producer.specs.declared.RingProducer.{RingProducer}
@@ -34,21 +34,20 @@ module _ (p : RingProducer) (bytes : ℕ) (ids counts : List ℕ) (n lens readab
   pub submit-ready : submitRefusal p bytes ids counts n lens readable ≡ 0 → SubmitReady
   unfolding submitRefusal
   submit-ready e =
-      let e₁ = passed (badRecord p) 7 _ (omega arith) e in
-      let e₂ = passed (badLent p bytes (length ids) (length counts) || badChain n lens readable) 8 _ (omega arith) (e₁ .1) in
-      let e₃ = passed (eqb n 0) 1 _ (omega arith) (e₂ .1) in
-      let e₄ = passed (ltb (p .free) n) 3 _ (omega arith) (e₃ .1) in
-      let e₅ = passed (eqb (p .height) 0) 4 _ (omega arith) (e₄ .1) in
-      let e₆ = passed _ 5 0 (omega arith) (e₅ .1) in
-      let l = neither (badLent p bytes (length ids) (length counts)) _ (e₂ .0) in
-      let i = neither (leb (p .layout .size) (topOf p ids)) _ (e₆ .0) in
+      let e₁ = both-passed (badRecord p) (badLent p bytes (length ids) (length counts) || badChain n lens readable) _ e in
+      let e₂ = passed (eqb n 0) 1 _ (omega arith) (e₁ .1 .1) in
+      let e₃ = passed (ltb (p .free) n) 3 _ (omega arith) (e₂ .1) in
+      let e₄ = passed (eqb (p .height) 0) 4 _ (omega arith) (e₃ .1) in
+      let e₅ = passed _ 5 0 (omega arith) (e₄ .1) in
+      let l = neither (badLent p bytes (length ids) (length counts)) _ (e₁ .1 .0) in
+      let i = neither (leb (p .layout .size) (topOf p ids)) _ (e₅ .0) in
       record {
         sound = sound p (e₁ .0);
         lent = lent p bytes (length ids) (length counts) (l .0);
         chain = good n lens readable (l .1);
-        elements = positive (eqb-false n 0 (e₃ .0));
-        room = ltb-false (p .free) n (e₄ .0);
-        stack = positive (eqb-false (p .height) 0 (e₅ .0));
+        elements = positive (eqb-false n 0 (e₂ .0));
+        room = ltb-false (p .free) n (e₃ .0);
+        stack = positive (eqb-false (p .height) 0 (e₄ .0));
         id = leb-false (p .layout .size) (topOf p ids) (i .0);
         unheld = eqb-true (getD counts (topOf p ids) 0) 0 (not-false (eqb (getD counts (topOf p ids) 0) 0) (i .1));
       }
@@ -56,12 +55,11 @@ module _ (p : RingProducer) (bytes : ℕ) (ids counts : List ℕ) (n lens readab
   pub submit-below : submitRefusal p bytes ids counts n lens readable < 9
   unfolding submitRefusal
   submit-below =
-      cond-lt (badRecord p) 7 _ (omega arith)
-      (cond-lt (badLent p bytes (length ids) (length counts) || badChain n lens readable) 8 _ (omega arith)
+      both-below (badRecord p) (badLent p bytes (length ids) (length counts) || badChain n lens readable) _
       (cond-lt (eqb n 0) 1 _ (omega arith)
       (cond-lt (ltb (p .free) n) 3 _ (omega arith)
       (cond-lt (eqb (p .height) 0) 4 _ (omega arith)
-      (cond-lt (leb (p .layout .size) (topOf p ids) || not (eqb (getD counts (topOf p ids) 0) 0)) 5 0 (omega arith) (omega arith))))))
+      (cond-lt (leb (p .layout .size) (topOf p ids) || not (eqb (getD counts (topOf p ids) 0) 0)) 5 0 (omega arith) (omega arith)))))
 
 module _ (p : RingProducer) (ring ids counts addrs lens : List ℕ) (readable : ℕ) where
   abbrev no : ℕ

@@ -1,8 +1,7 @@
 -- The producer's calls at values where they are not refused: what their laws ask can be met.
 -- Assumes nothing.
-use Prim.Native.Nat.{ℕ}
 use mathlib.Core.Path.{_≡_, refl}
-use mathlib.Core.List.{List, [], _∷_}
+use mathlib.Core.List.{[], _∷_}
 use lib.ListN.{replicate}
 use Rattle.cursor.specs.Cursor.{at}
 use mathlib.Core.Bool.{true}
