@@ -27,7 +27,7 @@ use Rattle.consumer.specs.declared.Checkpoint.{Checkpoint}
 use Rattle.consumer.specs.Outcome.{Outcome, outcome}
 use Rattle.consumer.specs.Complete.{completeRefusal, completeOf, tellOf}
 use Rattle.consumer.proofs.Complete.{complete-refused, complete-done}
-use Rattle.consumer.proofs.Goes.{complete-goes, complete-unheld, completed-is, tell-number, tell-end, tell-ring, tell-counts}
+use Rattle.consumer.proofs.Goes.{complete-goes, complete-unheld, completed-is, tell-number, tell-leaves}
 use Rattle.queue.specs.History.{Done, Poll, items, without}
 use Rattle.queue.specs.History as said
 use Rattle.queue.specs.Promise.{Has}
@@ -253,5 +253,5 @@ module _ (l : Layout) (laid-out : badLayout l ≡ false) where
     told-good idr lenr =
         good-by l q _ (saysCompleted id len (completes .answer)) _ (afterCompleted w completes)
         (ap (λ (m : ℕ). cond (eqb m 0) (said.completed d) (said.looked (said.refused (said.complete d) true m))) (tell-number (w .cons .used) completes))
-        (λ i. record { prod = w .prod; ids = w .ids; counts = w .counts; cons = tell-end (w .cons .used) completes i; heldCounts = tell-counts (w .cons .used) completes i; ring = tell-ring (w .cons .used) completes i })
+        (ap (afterCompleted w) (tell-leaves (w .cons .used) completes))
         (complete-good idr lenr)

@@ -23,10 +23,11 @@ use Rattle.layout.proofs.Laws.{Apart, laid, within}
 use Rattle.ring.specs.Tables.{upTo}
 use Rattle.ring.proofs.Frames.{put-length, sets-at, sets-before, sets-behind}
 use Rattle.producer.specs.Outcome as made
+use Rattle.producer.specs.Record as madeRecord
 use Rattle.producer.specs.Fresh as madeFresh
 use Rattle.producer.proofs.Reset as madeLaws
 use Rattle.consumer.specs.Outcome as taken
-use Rattle.consumer.specs.Record.{lentRefusal}
+use Rattle.consumer.specs.Record as takenRecord
 use Rattle.consumer.specs.Fresh as takenFresh
 use Rattle.consumer.specs.declared.Checkpoint.{Checkpoint}
 use Rattle.consumer.proofs.Reset as takenLaws
@@ -113,7 +114,7 @@ module _ (o : Opening) where
         (ring : List ℕ) → length ring ≡ length (w .ring)
         → madeFresh.resetOf (w .prod) ring (w .ids) (w .counts)
         ≡ made.outcome (done []) (madeFresh.freshOf l) (madeFresh.zeroedOf l ring) (sets (w .ids) 0 (upTo (l .size))) (sets (w .counts) 0 (replicate (l .size) 0))
-    unfolding madeFresh.allRefusal
+    unfolding madeRecord.lentRefusal
     producer-resets ring n =
         madeLaws.reset-done (w .prod) ring (w .ids) (w .counts) (rw n (simp (p-sound l (laid-out o) ret w q k, p-lent l (laid-out o) ret w q k)))
         ∙ ap (λ (m : Layout). made.outcome (done []) (madeFresh.freshOf m) (madeFresh.zeroedOf m ring) (sets (w .ids) 0 (upTo (m .size))) (sets (w .counts) 0 (replicate (m .size) 0)))
@@ -123,7 +124,7 @@ module _ (o : Opening) where
         (ring : List ℕ) → length ring ≡ length (w .ring)
         → takenFresh.resetOf (w .cons) ring (w .heldCounts)
         ≡ taken.outcome (done []) (takenFresh.freshOf l) (takenFresh.zeroedOf l ring) (sets (w .heldCounts) 0 (replicate (l .size) 0))
-    unfolding lentRefusal
+    unfolding takenRecord.lentRefusal
     consumer-resets ring n =
         takenLaws.reset-done (w .cons) ring (w .heldCounts) (rw n (simp (c-sound l (laid-out o) ret w q k, c-lent l (laid-out o) ret w q k)))
         ∙ ap (λ (m : Layout). taken.outcome (done []) (takenFresh.freshOf m) (takenFresh.zeroedOf m ring) (sets (w .heldCounts) 0 (replicate (m .size) 0)))
