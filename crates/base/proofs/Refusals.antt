@@ -3,16 +3,18 @@
 use Prim.Native.Nat.{ℕ, _<_}
 use mathlib.Core.Path.{_≡_, refl, sym, ap, _∙_}
 use mathlib.Core.List.{List}
-use mathlib.Core.Bool.{Bool, true, false, cond, _&&_}
+use mathlib.Core.Bool.{Bool, true, false, cond}
 use native.Mathlib.Omega.{arith}
-use lib.Dec.{ltb, eqb}
-use borrow.Author.Tests.{lt-ltb}
+use lib.Dec.{eqb}
+use lib.ListN.{getD}
+use borrow.Author.Tests.{lt-ltb, eqb-true, ne-eqb}
 use Rattle.base.specs.declared.RingError.{RingError}
 use Rattle.base.specs.declared.RingError.the-variants.{EmptyChain, BadChain, WouldBlock, OutOfMemory, InvalidState, InvalidLayout, BadRecord, BadLent, BadRollback}
 use Rattle.base.specs.declared.Reply.{Reply}
 use Rattle.base.specs.declared.Reply.the-variants.{Done, Refused}
 use Rattle.base.specs.Refusals.{numberOf, listed}
-use Rattle.base.specs.Answer.{Answer, bit, answerOf, Outcome, outcome}
+use Rattle.base.specs.Answer.{Answer, done, refused, valued, bit, answerOf, Outcome, outcome}
+use Rattle.base.proofs.Tests.{split}
 
 -- no refusal has number 0, and none is above 9
 pub number-low : (e : RingError) → 0 < numberOf e
@@ -59,6 +61,30 @@ back-number BadRollback = refl
 pub number-same : (d e : RingError) → numberOf d ≡ numberOf e → d ≡ e
 number-same d e h = sym (back-number d) ∙ ap back h ∙ back-number e
 
+-- what is read off an answer: its number, and its values
+abbrev pub number : Answer → ℕ
+number a = a .number
+
+abbrev pub value : ℕ → Answer → ℕ
+value i a = getD (a .values) i 0
+
+-- no refusal is a success, and two refusals of one answer are one
+pub not-done : {P : Type 0} (e : RingError) (vs : List ℕ) → done vs ≡ refused (numberOf e) → P
+not-done e vs h = absurd (omega (arith, ap number h, number-low e))
+
+pub refused-same : (d e : RingError) → refused (numberOf d) ≡ refused (numberOf e) → d ≡ e
+refused-same d e h = number-same d e (ap number h)
+
+-- other values leave an answer its number, and a refusal as it is
+pub valued-number : (vs : List ℕ) (a : Answer) → valued vs a .number ≡ a .number
+valued-number vs a =
+    split (eqb (a .number) 0)
+    (λ t. simp t (let e = eqb-true (a .number) 0 t in omega (arith, e)))
+    (λ f. simp f)
+
+pub valued-refused : (vs : List ℕ) (e : RingError) → valued vs (refused (numberOf e)) ≡ refused (numberOf e)
+valued-refused vs e = simp (ne-eqb (numberOf e) 0 (λ z. omega (arith, number-low e)))
+
 -- a yes or no is known by its value
 pub bit-same : (a b : Bool) → bit a ≡ bit b → a ≡ b
 bit-same a b h = sym (back-bit a) ∙ ap (λ (n : ℕ). eqb n 1) h ∙ back-bit b
@@ -70,9 +96,9 @@ bit-same a b h = sym (back-bit a) ∙ ap (λ (n : ℕ). eqb n 1) h ∙ back-bit 
 -- a reply is known by its answer
 pub reply-same : (a b : Reply) → answerOf a ≡ answerOf b → a ≡ b
 reply-same Done Done h = refl
-reply-same Done (Refused e) h = absurd (omega (arith, ap (λ (x : Answer). x .number) h, number-low e))
-reply-same (Refused d) Done h = absurd (omega (arith, ap (λ (x : Answer). x .number) h, number-low d))
-reply-same (Refused d) (Refused e) h = ap Refused (number-same d e (ap (λ (x : Answer). x .number) h))
+reply-same Done (Refused e) h = not-done e _ h
+reply-same (Refused d) Done h = not-done d _ (sym h)
+reply-same (Refused d) (Refused e) h = ap Refused (refused-same d e h)
 
 -- what a reply and the bytes at exit are known by
 abbrev pub seen : Reply × List ℕ → Outcome

@@ -1,8 +1,8 @@
 -- What a call answers, in document 01's terms: "a definition gives, for each of its cases, this paper's number and values".
 use Prim.Native.Nat.{ℕ}
-use mathlib.Core.List.{List, [], _∷_}
+use mathlib.Core.List.{List, []}
 use mathlib.Core.Bool.{Bool, cond}
-use Rattle.base.specs.declared.RingError.{RingError}
+use lib.Dec.{eqb}
 use Rattle.base.specs.declared.Reply.{Reply}
 use Rattle.base.specs.declared.Reply.the-variants.{Done, Refused}
 use Rattle.base.specs.Refusals.{numberOf}
@@ -19,6 +19,10 @@ done vs = record { number = 0; values = vs }
 -- a refusal has its number and no values
 abbrev pub refused : ℕ → Answer
 refused n = record { number = n; values = [] }
+
+-- an answer with these values, where it is a success; a refusal stays as it is
+abbrev pub valued : List ℕ → Answer → Answer
+valued vs a = cond (eqb (a .number) 0) (done vs) a
 
 -- a yes or no as a value: 1 or 0
 abbrev pub bit : Bool → ℕ

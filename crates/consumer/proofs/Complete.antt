@@ -10,7 +10,7 @@ use lib.ListN.{length, getD, set}
 use borrow.Author.Tests.{eq-eqb, ne-eqb, eqb-false, ltb-false, leb-false}
 use Rattle.base.specs.Answer.{done, refused}
 use Rattle.base.proofs.Tests.{neither, positive}
-use Rattle.base.proofs.Ladder.{passed, cond-lt}
+use Rattle.base.proofs.Ladder.{passed, both-passed, cond-lt, both-below}
 use Rattle.consumer.specs.declared.RingConsumer.{RingConsumer}
 use Rattle.consumer.specs.Record.{badRecord, badLent}
 use Rattle.consumer.specs.Outcome.{outcome}
@@ -30,14 +30,13 @@ module _ (p : RingConsumer) (bytes id : ℕ) (counts : List ℕ) where
   unfolding completeRefusal
   complete-ready e =
       let n = getD counts id 0 in
-      let e₁ = passed (badRecord p) 7 _ (omega arith) e in
-      let e₂ = passed (badLent p bytes (length counts)) 8 _ (omega arith) (e₁ .1) in
-      let e₃ = passed _ 5 0 (omega arith) (e₂ .1) in
-      let i = neither (leb (p .layout .size) id) _ (e₃ .0) in
+      let e₁ = both-passed (badRecord p) (badLent p bytes (length counts)) _ e in
+      let e₂ = passed _ 5 0 (omega arith) (e₁ .1 .1) in
+      let i = neither (leb (p .layout .size) id) _ (e₂ .0) in
       let h = neither (eqb n 0) _ (i .1) in
       record {
         sound = sound p (e₁ .0);
-        lent = lent p bytes (length counts) (e₂ .0);
+        lent = lent p bytes (length counts) (e₁ .1 .0);
         below = leb-false (p .layout .size) id (i .0);
         held = positive (eqb-false n 0 (h .0));
         room = ltb-false (p .inflight) n (h .1);
@@ -46,9 +45,8 @@ module _ (p : RingConsumer) (bytes id : ℕ) (counts : List ℕ) where
   pub complete-below : completeRefusal p bytes id counts < 9
   unfolding completeRefusal
   complete-below =
-      cond-lt (badRecord p) 7 _ (omega arith)
-      (cond-lt (badLent p bytes (length counts)) 8 _ (omega arith)
-      (cond-lt (leb (p .layout .size) id || (eqb (getD counts id 0) 0 || ltb (p .inflight) (getD counts id 0))) 5 0 (omega arith) (omega arith)))
+      both-below (badRecord p) (badLent p bytes (length counts)) _
+      (cond-lt (leb (p .layout .size) id || (eqb (getD counts id 0) 0 || ltb (p .inflight) (getD counts id 0))) 5 0 (omega arith) (omega arith))
 
 module _ (p : RingConsumer) (ring counts : List ℕ) (id len : ℕ) where
   abbrev no : ℕ

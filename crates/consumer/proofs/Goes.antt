@@ -3,12 +3,13 @@
 use Prim.Native.Nat.{ℕ, _+_, _-_, _≤_, _<_}
 use mathlib.Core.Path.{_≡_, refl, sym, _∙_, ap}
 use mathlib.Core.List.{List}
-use mathlib.Core.Bool.{Bool, true, false, not, cond, _||_, _&&_, Bool·beq}
+use mathlib.Core.Bool.{Bool, true, false, cond, _||_, _&&_, Bool·beq}
 use native.Mathlib.Omega.{arith}
 use lib.Dec.{ltb, leb, eqb}
 use lib.ListN.{length, getD}
-use borrow.Author.Tests.{eq-eqb, ne-eqb, eqb-true, lt-ltb, le-ltb, lt-leb}
-use Rattle.base.proofs.Tests.{split}
+use borrow.Author.Tests.{eq-eqb, ne-eqb, le-ltb, lt-leb}
+use Rattle.base.proofs.Refusals.{valued-number}
+use Rattle.base.proofs.Tests.{or-true}
 use Rattle.cursor.specs.declared.RingCursor.{RingCursor}
 use Rattle.cursor.specs.Cursor.{fresh, steps}
 use Rattle.desc.specs.declared.Descriptor.{Descriptor}
@@ -19,7 +20,7 @@ use Rattle.layout.specs.Layout.{badLayout, outside}
 use Rattle.consumer.specs.declared.RingConsumer.{RingConsumer}
 use Rattle.consumer.specs.declared.Checkpoint.{Checkpoint}
 use Rattle.consumer.specs.Record.{badRecord, badLent, bytesRefusal}
-use Rattle.consumer.specs.Outcome.{Outcome}
+use Rattle.consumer.specs.Outcome.{Outcome, outcome}
 use Rattle.consumer.specs.Poll.{headRefusal, pastOf}
 use Rattle.consumer.specs.Complete.{completeRefusal, completedOf, tellOf}
 use Rattle.consumer.specs.Rollback.{handedRefusal, sameOf, staleOf, backOf}
@@ -87,22 +88,11 @@ completed-is p n = refl
 module _ (old : RingCursor) (o : Outcome) where
   pub tell-number : tellOf old o .answer .number ≡ o .answer .number
   unfolding tellOf
-  tell-number =
-      split (eqb (o .answer .number) 0)
-      (λ t. simp t (let e = eqb-true (o .answer .number) 0 t in omega (arith, e)))
-      (λ f. simp f)
+  tell-number = valued-number _ (o .answer)
 
-  pub tell-end : tellOf old o .end ≡ o .end
+  pub tell-leaves : tellOf old o ≡ outcome (tellOf old o .answer) (o .end) (o .ring) (o .counts)
   unfolding tellOf
-  tell-end = refl
-
-  pub tell-ring : tellOf old o .ring ≡ o .ring
-  unfolding tellOf
-  tell-ring = refl
-
-  pub tell-counts : tellOf old o .counts ≡ o .counts
-  unfolding tellOf
-  tell-counts = refl
+  tell-leaves = refl
 
 -- ---- rollbacks
 
@@ -111,10 +101,6 @@ module _ (p : RingConsumer) (cp : Checkpoint) (counts : ℕ) where
       leb (p .layout .size) (cp .avail .head) || leb (p .layout .size) (cp .used .head) ≡ true → (rest : ℕ) → handedRefusal p cp counts rest ≡ 7
   unfolding handedRefusal
   handed-bad h rest = simp h (ap (λ (b : Bool). cond b 7 (cond (ltb counts (p .layout .size)) 8 rest)) (or-true (badRecord p)))
-    where
-      or-true : (b : Bool) → b || true ≡ true
-      or-true true = refl
-      or-true false = refl
 
   pub handed-goes :
       badRecord p ≡ false → cp .avail .head < p .layout .size → cp .used .head < p .layout .size → p .layout .size ≤ counts

@@ -4,10 +4,10 @@ use Prim.Native.Nat.{ℕ, _≤_, _<_}
 use mathlib.Core.Path.{_≡_}
 use mathlib.Core.Bool.{false}
 use native.Mathlib.Omega.{arith}
-use lib.Dec.{ltb, leb}
+use lib.Dec.{leb}
 use borrow.Author.Tests.{ltb-false, leb-false}
 use Rattle.base.proofs.Tests.{neither}
-use Rattle.base.proofs.Ladder.{cond-lt, passed}
+use Rattle.base.proofs.Ladder.{both-passed, both-below}
 use Rattle.layout.specs.Layout.{badLayout, outside}
 use Rattle.layout.proofs.Laws.{Laid, laid, Within, within}
 use Rattle.consumer.specs.declared.RingConsumer.{RingConsumer}
@@ -55,9 +55,8 @@ pub record BytesReady (p : RingConsumer) (bytes : ℕ) : Type 0 where
 pub bytes-ready : (p : RingConsumer) (bytes : ℕ) → bytesRefusal p bytes ≡ 0 → BytesReady p bytes
 unfolding bytesRefusal
 bytes-ready p bytes e =
-    let e₁ = passed (badRecord p) 7 _ (omega arith) e in
-    let e₂ = passed (outside (p .layout) bytes) 8 0 (omega arith) (e₁ .1) in
-    record { sound = sound p (e₁ .0); bytes-whole = within (p .layout) bytes (e₂ .0) }
+    let h = both-passed (badRecord p) (outside (p .layout) bytes) 0 e in
+    record { sound = sound p (h .0); bytes-whole = within (p .layout) bytes (h .1 .0) }
 
 pub record LentReady (p : RingConsumer) (bytes counts : ℕ) : Type 0 where
   pub sound : Sound p
@@ -66,16 +65,13 @@ pub record LentReady (p : RingConsumer) (bytes counts : ℕ) : Type 0 where
 pub lent-ready : (p : RingConsumer) (bytes counts : ℕ) → lentRefusal p bytes counts ≡ 0 → LentReady p bytes counts
 unfolding lentRefusal
 lent-ready p bytes counts e =
-    let e₁ = passed (badRecord p) 7 _ (omega arith) e in
-    let e₂ = passed (badLent p bytes counts) 8 0 (omega arith) (e₁ .1) in
-    record { sound = sound p (e₁ .0); lent = lent p bytes counts (e₂ .0) }
+    let h = both-passed (badRecord p) (badLent p bytes counts) 0 e in
+    record { sound = sound p (h .0); lent = lent p bytes counts (h .1 .0) }
 
 pub bytes-below : (p : RingConsumer) (bytes : ℕ) → bytesRefusal p bytes < 9
 unfolding bytesRefusal
-bytes-below p bytes =
-    cond-lt (badRecord p) 7 _ (omega arith) (cond-lt (outside (p .layout) bytes) 8 0 (omega arith) (omega arith))
+bytes-below p bytes = both-below (badRecord p) (outside (p .layout) bytes) 0 (omega arith)
 
 pub lent-below : (p : RingConsumer) (bytes counts : ℕ) → lentRefusal p bytes counts < 9
 unfolding lentRefusal
-lent-below p bytes counts =
-    cond-lt (badRecord p) 7 _ (omega arith) (cond-lt (badLent p bytes counts) 8 0 (omega arith) (omega arith))
+lent-below p bytes counts = both-below (badRecord p) (badLent p bytes counts) 0 (omega arith)

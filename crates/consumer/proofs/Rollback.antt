@@ -1,7 +1,7 @@
 -- The ways a rollback ends.
 -- Assumes nothing.
 use Prim.Native.Nat.{ℕ, _+_, _≤_, _<_}
-use mathlib.Core.Path.{_≡_, refl, sym, ap, ap₂, _∙_}
+use mathlib.Core.Path.{_≡_, refl, sym, ap, _∙_}
 use mathlib.Core.Logic.{_⊎_, inl, inr, ⊎-elim}
 use mathlib.Core.List.{List, [], _∷_}
 use mathlib.Core.Bool.{Bool, true, false, not, cond, _||_, _&&_, Bool·beq}
@@ -11,7 +11,7 @@ use lib.ListN.{length}
 use borrow.Author.Tests.{eq-eqb, ne-eqb, eqb-true, ltb-false, leb-false, not-false}
 use Rattle.base.specs.Answer.{done, refused}
 use Rattle.base.proofs.Tests.{neither, split}
-use Rattle.base.proofs.Ladder.{passed, cond-lt}
+use Rattle.base.proofs.Ladder.{passed, both-passed, both-below, Rungs, rung, no-rung}
 use Rattle.cursor.specs.declared.RingCursor.{RingCursor}
 use Rattle.cursor.specs.Cursor.{at, steps}
 use Rattle.undo.specs.Undo.{badIds, totalOf, sumOf, clearedOf}
@@ -34,42 +34,28 @@ module _ (p : RingConsumer) (cp : Checkpoint) (counts : ℕ) where
   pub handed-ready : (rest : ℕ) → handedRefusal p cp counts rest ≡ 0 → HandedReady × (rest ≡ 0)
   unfolding handedRefusal
   handed-ready rest e =
-      let e₁ = passed _ 7 _ (omega arith) e in
-      let e₂ = passed (ltb counts (p .layout .size)) 8 rest (omega arith) (e₁ .1) in
+      let e₁ = both-passed (badRecord p || (leb (p .layout .size) (cp .avail .head) || leb (p .layout .size) (cp .used .head))) (ltb counts (p .layout .size)) rest e in
       let a = neither (badRecord p) _ (e₁ .0) in
       let b = neither (leb (p .layout .size) (cp .avail .head)) _ (a .1) in (
         record {
           sound = sound p (a .0);
           avail = leb-false (p .layout .size) (cp .avail .head) (b .0);
           used = leb-false (p .layout .size) (cp .used .head) (b .1);
-          counts-whole = ltb-false counts (p .layout .size) (e₂ .0);
+          counts-whole = ltb-false counts (p .layout .size) (e₁ .1 .0);
         },
-        e₂ .1,
+        e₁ .1 .1,
       )
 
   pub handed-below : handedRefusal p cp counts 0 < 9
   unfolding handedRefusal
   handed-below =
-      cond-lt (badRecord p || (leb (p .layout .size) (cp .avail .head) || leb (p .layout .size) (cp .used .head))) 7 _ (omega arith)
-      (cond-lt (ltb counts (p .layout .size)) 8 0 (omega arith) (omega arith))
+      both-below (badRecord p || (leb (p .layout .size) (cp .avail .head) || leb (p .layout .size) (cp .used .head))) (ltb counts (p .layout .size)) 0 (omega arith)
 
-  pub handed-passed : (rest : ℕ) → handedRefusal p cp counts 0 ≡ 0 → handedRefusal p cp counts rest ≡ rest
+  pub handed-rungs : Rungs (handedRefusal p cp counts)
   unfolding handedRefusal
-  handed-passed rest e = rungs (badRecord p || (leb (p .layout .size) (cp .avail .head) || leb (p .layout .size) (cp .used .head))) (ltb counts (p .layout .size)) e
-    where
-      rungs : (a b : Bool) → _≡_ {A = ℕ} (cond a 7 (cond b 8 0)) 0 → cond a 7 (cond b 8 rest) ≡ rest
-      rungs true b z = absurd (omega arith)
-      rungs false true z = absurd (omega arith)
-      rungs false false z = refl
-
-  pub handed-stopped : (rest : ℕ) → (handedRefusal p cp counts 0 ≡ 0 → ⊥) → handedRefusal p cp counts rest ≡ handedRefusal p cp counts 0
-  unfolding handedRefusal
-  handed-stopped rest e = rungs (badRecord p || (leb (p .layout .size) (cp .avail .head) || leb (p .layout .size) (cp .used .head))) (ltb counts (p .layout .size)) e
-    where
-      rungs : (a b : Bool) → (_≡_ {A = ℕ} (cond a 7 (cond b 8 0)) 0 → ⊥) → cond a 7 (cond b 8 rest) ≡ cond a 7 (cond b 8 0)
-      rungs true b z = refl
-      rungs false true z = refl
-      rungs false false z = absurd (z refl)
+  handed-rungs =
+      rung (badRecord p || (leb (p .layout .size) (cp .avail .head) || leb (p .layout .size) (cp .used .head))) 7 _ (omega arith)
+      (rung (ltb counts (p .layout .size)) 8 _ (omega arith) no-rung)
 
 -- a checkpoint that is not stale: what its tests say
 pub same-cursor : (a b : RingCursor) → sameOf a b ≡ true → a ≡ b
@@ -124,21 +110,21 @@ module _ (p : RingConsumer) (counts : List ℕ) (cp : Checkpoint) (ids : List �
   pub rollback-stopped : (handed ≡ 0 → ⊥) → rollbackOf p counts cp ids ≡ rolled (refused handed) p counts
   unfolding rollbackOf rollbackRefusal
   rollback-stopped h =
-      let e = handed-stopped p cp (length counts) (cond (bad || stale) 9 0) h in
+      let e = handed-rungs p cp (length counts) .stops (cond (bad || stale) 9 0) h in
       simp (e, ne-eqb handed 0 h)
 
   pub rollback-refused : handed ≡ 0 → bad || stale ≡ true → rollbackOf p counts cp ids ≡ rolled (refused 9) p counts
   unfolding rollbackOf rollbackRefusal
   rollback-refused z h =
       let e : handedRefusal p cp (length counts) (cond (bad || stale) 9 0) ≡ 9 =
-      handed-passed p cp (length counts) (cond (bad || stale) 9 0) z ∙ ap (λ (b : Bool). cond b 9 0) h in
+      handed-rungs p cp (length counts) .passes (cond (bad || stale) 9 0) z ∙ ap (λ (b : Bool). cond b 9 0) h in
       simp e
 
   pub rollback-done : handed ≡ 0 → bad || stale ≡ false → rollbackOf p counts cp ids ≡ rolled (done []) (backOf p cp) (clearedOf counts ids)
   unfolding rollbackOf rollbackRefusal
   rollback-done z h =
       let e : handedRefusal p cp (length counts) (cond (bad || stale) 9 0) ≡ 0 =
-      handed-passed p cp (length counts) (cond (bad || stale) 9 0) z ∙ ap (λ (b : Bool). cond b 9 0) h in
+      handed-rungs p cp (length counts) .passes (cond (bad || stale) 9 0) z ∙ ap (λ (b : Bool). cond b 9 0) h in
       simp e
 
   -- by the whole refusal: the counts cleared, or as they were

@@ -1,12 +1,10 @@
 -- Each answer of the consumer, with the record that it hands back, is told by its number and values.
 -- Assumes nothing.
 use Prim.Native.Nat.{ℕ}
-use mathlib.Core.Path.{_≡_, ap, ap₂}
+use mathlib.Core.Path.{_≡_, sym, ap, ap₂}
 use mathlib.Core.List.{List}
-use native.Mathlib.Omega.{arith}
-use lib.ListN.{getD}
 use Rattle.base.specs.Answer.{Answer}
-use Rattle.base.proofs.Refusals.{number-low, number-same, bit-same}
+use Rattle.base.proofs.Refusals.{value, not-done, refused-same, bit-same}
 use Rattle.cursor.specs.Cursor.{at}
 use Rattle.layout.specs.Layout.{layout}
 use Rattle.consumer.specs.declared.RingConsumer.{RingConsumer}
@@ -26,30 +24,24 @@ use Rattle.consumer.specs.Complete.{toldAnswer, toldRecord}
 use Rattle.consumer.specs.Rollback.{checkpointAnswer}
 use Rattle.consumer.specs.Fresh.{Open, opened, openedAnswer}
 
-abbrev number : Answer → ℕ
-number a = a .number
-
-abbrev value : ℕ → Answer → ℕ
-value i a = getD (a .values) i 0
-
 pub polled-same : (x y : Polled) → polledAnswer x ≡ polledAnswer y → polledRecord x ≡ polledRecord y → x ≡ y
 polled-same (polled.Chain a p) (polled.Chain b q) h r =
     λ i. polled.Chain (record { id = value 0 (h i); count = value 1 (h i); readable = value 2 (h i) }) (r i)
-polled-same (polled.Chain a p) (polled.Refused e q) h r = absurd (omega (arith, ap number h, number-low e))
-polled-same (polled.Refused e p) (polled.Chain b q) h r = absurd (omega (arith, ap number h, number-low e))
-polled-same (polled.Refused e p) (polled.Refused f q) h r = ap₂ polled.Refused (number-same e f (ap number h)) r
+polled-same (polled.Chain a p) (polled.Refused e q) h r = not-done e _ h
+polled-same (polled.Refused e p) (polled.Chain b q) h r = not-done e _ (sym h)
+polled-same (polled.Refused e p) (polled.Refused f q) h r = ap₂ polled.Refused (refused-same e f h) r
 
 pub answered-same : (x y : Answered) → answerOf x ≡ answerOf y → recordOf x ≡ recordOf y → x ≡ y
 answered-same (answered.Done p) (answered.Done q) h r = ap answered.Done r
-answered-same (answered.Done p) (answered.Refused e q) h r = absurd (omega (arith, ap number h, number-low e))
-answered-same (answered.Refused e p) (answered.Done q) h r = absurd (omega (arith, ap number h, number-low e))
-answered-same (answered.Refused e p) (answered.Refused f q) h r = ap₂ answered.Refused (number-same e f (ap number h)) r
+answered-same (answered.Done p) (answered.Refused e q) h r = not-done e _ h
+answered-same (answered.Refused e p) (answered.Done q) h r = not-done e _ (sym h)
+answered-same (answered.Refused e p) (answered.Refused f q) h r = ap₂ answered.Refused (refused-same e f h) r
 
 pub told-same : (x y : CompletedTold) → toldAnswer x ≡ toldAnswer y → toldRecord x ≡ toldRecord y → x ≡ y
 told-same (told.Notify a p) (told.Notify b q) h r = λ i. told.Notify (bit-same a b (ap (value 0) h) i) (r i)
-told-same (told.Notify a p) (told.Refused e q) h r = absurd (omega (arith, ap number h, number-low e))
-told-same (told.Refused e p) (told.Notify b q) h r = absurd (omega (arith, ap number h, number-low e))
-told-same (told.Refused e p) (told.Refused f q) h r = ap₂ told.Refused (number-same e f (ap number h)) r
+told-same (told.Notify a p) (told.Refused e q) h r = not-done e _ h
+told-same (told.Refused e p) (told.Notify b q) h r = not-done e _ (sym h)
+told-same (told.Refused e p) (told.Refused f q) h r = ap₂ told.Refused (refused-same e f h) r
 
 pub checkpointed-same : (x y : Checkpointed) → checkpointAnswer x ≡ checkpointAnswer y → x ≡ y
 checkpointed-same (checkpointed.At a) (checkpointed.At b) h =
@@ -58,9 +50,9 @@ checkpointed-same (checkpointed.At a) (checkpointed.At b) h =
       used = at (value 2 (h i)) (bit-same (a .used .wrap) (b .used .wrap) (ap (value 3) h) i);
       inflight = value 4 (h i);
     })
-checkpointed-same (checkpointed.At a) (checkpointed.Refused e) h = absurd (omega (arith, ap number h, number-low e))
-checkpointed-same (checkpointed.Refused e) (checkpointed.At b) h = absurd (omega (arith, ap number h, number-low e))
-checkpointed-same (checkpointed.Refused e) (checkpointed.Refused f) h = ap checkpointed.Refused (number-same e f (ap number h))
+checkpointed-same (checkpointed.At a) (checkpointed.Refused e) h = not-done e _ h
+checkpointed-same (checkpointed.Refused e) (checkpointed.At b) h = not-done e _ (sym h)
+checkpointed-same (checkpointed.Refused e) (checkpointed.Refused f) h = ap checkpointed.Refused (refused-same e f h)
 
 pub opened-same : (x y : Opened) → openedAnswer x ≡ openedAnswer y → x ≡ y
 opened-same (opening.Ring p) (opening.Ring q) h =
@@ -71,9 +63,9 @@ opened-same (opening.Ring p) (opening.Ring q) h =
       inflight = value 8 (h i);
       shadow = value 9 (h i);
     })
-opened-same (opening.Ring p) (opening.Refused e) h = absurd (omega (arith, ap number h, number-low e))
-opened-same (opening.Refused e) (opening.Ring q) h = absurd (omega (arith, ap number h, number-low e))
-opened-same (opening.Refused e) (opening.Refused f) h = ap opening.Refused (number-same e f (ap number h))
+opened-same (opening.Ring p) (opening.Refused e) h = not-done e _ h
+opened-same (opening.Refused e) (opening.Ring q) h = not-done e _ (sym h)
+opened-same (opening.Refused e) (opening.Refused f) h = ap opening.Refused (refused-same e f h)
 
 -- ---- what is seen of a call: its result, and what it left of what it was lent
 

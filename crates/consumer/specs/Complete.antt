@@ -5,7 +5,7 @@ use mathlib.Core.Bool.{cond, _||_}
 use lib.Dec.{ltb, leb, eqb}
 use lib.ListN.{length, getD, set}
 use Rattle.base.specs.Refusals.{numberOf}
-use Rattle.base.specs.Answer.{Answer, done, refused, bit}
+use Rattle.base.specs.Answer.{Answer, done, refused, valued, bit}
 use Rattle.cursor.specs.declared.RingCursor.{RingCursor}
 use Rattle.cursor.specs.Cursor.{steps}
 use Rattle.desc.specs.Desc.{descriptor, markUsed}
@@ -48,14 +48,10 @@ completeOf p ring counts id len =
 
 -- success has one value: what the driver's event area, in the bytes that the completion left, asks of the move from the used
 -- cursor before it to the one behind it
-abbrev pub valued : RingCursor → Outcome → Answer
-valued old o =
-    cond (eqb (o .answer .number) 0)
-    (done (bit (told (o .end .layout .driver) (o .end .layout .size) old (o .end .used) (o .ring)) ∷ []))
-    (o .answer)
-
 unfoldable pub tellOf : RingCursor → Outcome → Outcome
-tellOf old o = outcome (valued old o) (o .end) (o .ring) (o .counts)
+tellOf old o =
+    let yes = told (o .end .layout .driver) (o .end .layout .size) old (o .end .used) (o .ring) in
+    outcome (valued (bit yes ∷ []) (o .answer)) (o .end) (o .ring) (o .counts)
 
 abbrev pub toldAnswer : CompletedTold → Answer
 toldAnswer (Notify b p) = done (bit b ∷ [])

@@ -8,8 +8,10 @@ use mathlib.Core.Logic.{_≢_, _⊎_, inl, inr}
 use mathlib.Core.List.{[], _∷_, _++_}
 use mathlib.Core.Bool.{Bool, true, false, false≢true, _&&_}
 use native.Mathlib.Omega.{arith}
-use lib.Dec.{leb}
+use lib.Dec.{leb, eqb}
 use lib.ListN.{length, drop}
+use Rattle.base.specs.Answer as answer
+use Rattle.base.specs.Answer.{bit}
 use Rattle.cursor.specs.Cursor.{at}
 use Rattle.chain.specs.Chain.{badChain}
 use Rattle.producer.specs.Poll as usedPoll
@@ -17,40 +19,25 @@ use Rattle.consumer.specs.declared.Checkpoint.{Checkpoint}
 use Rattle.consumer.specs.Poll.{pollOf}
 use Rattle.consumer.specs.Complete.{completeOf, tellOf}
 use Rattle.consumer.specs.Rollback.{rollbackOf}
-use Rattle.queue.specs.History.{Event, History, Poll, slotsOf, slotsIn, items, pubs, polls, comps, reclaims, lives, held, finished, out, promised, waiting}
+use Rattle.queue.specs.History.{Event, History, Poll, slotsOf, slotsIn, items, pubs, polls, comps, reclaims, standing, held, finished, out, promised, waiting}
 use Rattle.queue.specs.History as said
 use Rattle.queue.specs.Promise.{Has, Unlike, Fine, Each}
-use Rattle.queue.specs.Sentences.{At, Stands, Literally, Own, OwnBefore}
+use Rattle.queue.specs.Sentences.{At, Stands, Literally, ItsOwn, ItsOwnBefore}
 use Rattle.queue.specs.Machine.{worldOf, historyOf}
 use Rattle.queue.proofs.Machine.{history-drop}
 use Rattle.packed.specs.Calls.{Foreign, oneOf, pollUsed, nextId, shouldNotifySince, pollAvailable, submitUsedWithNotify, peekAvailable, rollbackPolls, consumers}
-use Rattle.packed.specs.Machine.{World, Given, packed, submitsOf, ownSays, ownLeaves, astrayIn, asked, says}
-use Rattle.packed.specs.Opening.{Run}
-use Rattle.packed.specs.Opening as run
+use Rattle.packed.specs.Calls.{ProducerQuestion, producerNumFree, producerNumInflight, producerIsFull, producerLen, ConsumerQuestion, consumerNumFree, consumerNumInflight, consumerIsFull, consumerLen}
+use Rattle.packed.specs.Machine.{World, Given, packed, producerAnswers, consumerAnswers, submitsOf, ownSays, ownLeaves, astrayIn, callOf, says}
+use Rattle.packed.specs.Opening.{Run, historyIn}
 use Rattle.packed.proofs.Answers.{either-keeps, poll-counts, reclaim-counts}
 use Rattle.packed.proofs.Packed.{size-stays}
 use Rattle.packed.proofs.Promises as demand
+use Rattle.packed.proofs.Counted as counted
 use Rattle.packed.proofs.Astray.{astray-leaves}
-use Rattle.history.proofs.Ends.{zeros, three, world-three, does, strays, done, chain, submits, submitsOne, completes, ids-fit, polls-for, checkpoint}
-use Rattle.history.proofs.Run.{a, b, c, d, e, f, g, h, i, c2, outsider, calls, history, answers, undoes-two, meets}
+use Rattle.history.proofs.Ends.{zeros, world-three, does, strays, done, chain, submits, submitsOne, completes, ids-fit, polls-for, checkpoint}
+use Rattle.history.proofs.Run.{a, b, c, d, e, f, g, h, i, c2, outsider, calls, history, answers, undoes-two, whole}
 
 -- ---- the first k calls
-
-abbrev whole : Run
-whole =
-    record {
-      size = 3;
-      table = 0;
-      driver = 48;
-      device = 52;
-      ring = zeros 56;
-      ids = zeros 3;
-      counts = zeros 3;
-      held = zeros 3;
-      opening = three;
-      calls = calls;
-      asked = meets;
-    }
 
 abbrev first : ℕ → Run
 first k = demand.begun (73 - k) whole
@@ -64,22 +51,22 @@ world k = worldOf packed world-three (drop (73 - k) calls)
 abbrev pub after : ℕ → Given → Event Checkpoint
 after k x = says (world k) (x .call)
 
-spoken : (k : ℕ) → run.said (first k) ≡ until k
+spoken : (k : ℕ) → historyIn (first k) ≡ until k
 spoken k = history-drop packed world-three (73 - k) calls ∙ ap (drop (73 - k)) answers
 
 -- the same, with the last answer left open
-answered : (k : ℕ) (x : Given) → drop (73 - suc k) calls ≡ x ∷ drop (73 - k) calls → run.said (first (suc k)) ≡ after k x ∷ until k
+answered : (k : ℕ) (x : Given) → drop (73 - suc k) calls ≡ x ∷ drop (73 - k) calls → historyIn (first (suc k)) ≡ after k x ∷ until k
 unfolding historyOf
 answered k x z = ap (historyOf packed world-three) z ∙ ap (λ (t : History Checkpoint). after k x ∷ t) (spoken k)
 
 -- as it reads, if that answer is v
-reads : (k : ℕ) (x : Given) → drop (73 - suc k) calls ≡ x ∷ drop (73 - k) calls → (v : Event Checkpoint) → after k x ≡ v → run.said (first (suc k)) ≡ v ∷ until k
+reads : (k : ℕ) (x : Given) → drop (73 - suc k) calls ≡ x ∷ drop (73 - k) calls → (v : Event Checkpoint) → after k x ≡ v → historyIn (first (suc k)) ≡ v ∷ until k
 reads k x z v y = answered k x z ∙ ap (λ (w : Event Checkpoint). w ∷ until k) y
 
 -- outputs of three entries are long enough throughout
 long-enough : (k : ℕ) → leb (world k .cons .layout .size) 3 && leb (world k .cons .layout .size) 3 ≡ true
 long-enough k =
-    ap (λ (n : ℕ). leb n 3 && leb n 3) (size-stays 3 0 48 52 (zeros 56) (zeros 3) (zeros 3) (zeros 3) three (first k .calls) (first k .asked) .1)
+    ap (λ (n : ℕ). leb n 3 && leb n 3) (size-stays (first k) .1)
 
 -- the calls that have no arguments
 abbrev reclaim : Given
@@ -95,7 +82,7 @@ next = does nextId tt
 
 -- `arrives`: c, d and e wait; two polls later, the third poll gives e
 pub third-poll : after 32 (polls-for 3) ≡ said.polled e
-unfolding pubs lives
+unfolding pubs standing
 third-poll =
     demand.arrives (first 33) (until 30) (c ∷ d ∷ []) [] e refl (said.polled d ∷ said.polled c ∷ []) (after 32 (polls-for 3))
     (answered 32 (polls-for 3) refl) (tt, (tt, tt)) refl (poll-counts (world 32) (zeros 3) (zeros 3) (long-enough 32))
@@ -105,7 +92,7 @@ pub first-poll : after 2 (polls-for 3) ≡ said.looked (said.refused said.poll t
 unfolding says ownSays pubs
 first-poll =
     either-keeps (λ v. after 2 (polls-for 3) ≡ v → after 2 (polls-for 3) ≡ said.looked (said.refused said.poll true 3))
-    (pollOf (world 2 .cons) (world 2 .ring) (world 2 .held) (zeros 3) (zeros 3) .answer) _ _
+    (pollOf (world 2 .cons) (world 2 .ring) (world 2 .heldCounts) (zeros 3) (zeros 3) .answer) _ _
     (λ z. absurd (demand.as-submitted (first 3) (until 2) _ (reads 2 (polls-for 3) refl _ z) .1 .0))
     (λ z. blocked _ _ (long-enough 2) z) refl
   where
@@ -115,7 +102,7 @@ first-poll =
     blocked false n y z = absurd (false≢true y)
 
 -- `poll-blocks`: the fourth poll blocked, so the polls that stand gave all five chains
-pub none-waits : a ∷ b ∷ c ∷ d ∷ e ∷ [] ≡ items (lives (until 33))
+pub none-waits : a ∷ b ∷ c ∷ d ∷ e ∷ [] ≡ items (standing (until 33))
 unfolding pubs
 none-waits = demand.poll-blocks (first 34) (until 33) 3 (spoken 34) .1
 
@@ -136,7 +123,7 @@ as-published = demand.as-submitted (first 42) (until 41) f (spoken 42)
 
 -- `peeks`: nothing is published, and peek_available can only say no; a waits, and it can only say yes
 pub peeks-no : (v : Bool) → after 1 peek ≡ said.looked (said.peeked v) → v ≡ false
-unfolding pubs lives
+unfolding pubs standing
 peeks-no v z = go (demand.peeks (first 2) (until 1) v (reads 1 peek refl _ z))
   where
     go : ((v ≡ true) × (0 < length (waiting (until 1)))) ⊎ ((v ≡ false) × (waiting (until 1) ≡ [])) → v ≡ false
@@ -144,7 +131,7 @@ peeks-no v z = go (demand.peeks (first 2) (until 1) v (reads 1 peek refl _ z))
     go (inr y) = y .0
 
 pub peeks-yes : (v : Bool) → after 5 peek ≡ said.looked (said.peeked v) → v ≡ true
-unfolding pubs lives
+unfolding pubs standing
 peeks-yes v z = go (demand.peeks (first 6) (until 5) v (reads 5 peek refl _ z))
   where
     go : ((v ≡ true) × (0 < length (waiting (until 5)))) ⊎ ((v ≡ false) × (waiting (until 5) ≡ [])) → v ≡ true
@@ -161,7 +148,7 @@ pub held-is-accepted : after 19 complete-b ≡ said.completed (done 1 64)
 unfolding says ownSays held
 held-is-accepted =
     either-keeps (λ v. after 19 complete-b ≡ v → after 19 complete-b ≡ said.completed (done 1 64))
-    (tellOf (world 19 .cons .used) (completeOf (world 19 .cons) (world 19 .ring) (world 19 .held) 1 64) .answer) _ _
+    (tellOf (world 19 .cons .used) (completeOf (world 19 .cons) (world 19 .ring) (world 19 .heldCounts) 1 64) .answer) _ _
     (λ z. z)
     (λ z. absurd (demand.held-accepted (first 20) (until 19) (done 1 64) true _ (reads 19 complete-b refl _ z) (inr (inl refl)))) refl
 
@@ -197,38 +184,38 @@ pub none-owed : done 1 64 ∷ done 2 32 ∷ [] ≡ reclaims (until 24)
 unfolding comps
 none-owed = demand.poll-used-blocks (first 25) (until 24) 3 (spoken 25) .1
 
-owns : (j : ℕ) → j < length (reclaims (until 24)) → (p : ℕ) × (p < length (pubs (until 24))) × Own (until 24) j p
-owns = subst (λ t. (j : ℕ) → j < length (reclaims t) → (p : ℕ) × (p < length (pubs t)) × Own t j p) (spoken 24) (demand.its-own (first 24))
+owns : (j : ℕ) → j < length (reclaims (until 24)) → (p : ℕ) × (p < length (pubs (until 24))) × ItsOwn (until 24) j p
+owns = subst (λ t. (j : ℕ) → j < length (reclaims t) → (p : ℕ) × (p < length (pubs t)) × ItsOwn t j p) (spoken 24) (demand.its-own (first 24))
 
 -- `its-own`: of two completions that came back the first is of the second submission, b, and the second of the first, a
-pub first-is-of-b : Own (until 24) 0 1
-unfolding pubs reclaims finished held lives polls
+pub first-is-of-b : ItsOwn (until 24) 0 1
+unfolding pubs reclaims finished held standing polls
 first-is-of-b = let k = owns 0 (omega arith) in go (k .0) (k .1) (k .2)
   where
-    go : (p : ℕ) → p < 2 → Own (until 24) 0 p → Own (until 24) 0 1
+    go : (p : ℕ) → p < 2 → ItsOwn (until 24) 0 p → ItsOwn (until 24) 0 1
     go zero l o = absurd (omega (arith, ap (λ (x : Poll). x .no) (o .completed ∙ sym (o .stands))))
     go (suc zero) l o = o
     go (suc (suc p)) l o = absurd (omega arith)
 
-pub second-is-of-a : Own (until 24) 1 0
-unfolding pubs reclaims finished held lives polls
+pub second-is-of-a : ItsOwn (until 24) 1 0
+unfolding pubs reclaims finished held standing polls
 second-is-of-a = let k = owns 1 (omega arith) in go (k .0) (k .1) (k .2)
   where
-    go : (p : ℕ) → p < 2 → Own (until 24) 1 p → Own (until 24) 1 0
+    go : (p : ℕ) → p < 2 → ItsOwn (until 24) 1 p → ItsOwn (until 24) 1 0
     go zero l o = o
     go (suc zero) l o = absurd (omega (arith, ap (λ (x : Poll). x .no) (o .completed ∙ sym (o .stands))))
     go (suc (suc p)) l o = absurd (omega arith)
 
 -- `once`: no other completion is of b
-pub no-other : (j : ℕ) → Own (until 24) j 1 → j ≡ 0
-no-other j o = subst (λ t. (i j p : ℕ) → Own t i p → Own t j p → i ≡ j) (spoken 24) (demand.once (first 24)) j 0 1 o first-is-of-b
+pub no-other : (j : ℕ) → ItsOwn (until 24) j 1 → j ≡ 0
+no-other j o = subst (λ t. (i j p : ℕ) → ItsOwn t i p → ItsOwn t j p → i ≡ j) (spoken 24) (demand.once (first 24)) j 0 1 o first-is-of-b
 
 -- `its-own-before`: when poll_used returned b's completion, b was submitted, a poll of it stood, and it was completed
-pub before-it-came-back : OwnBefore (until 22) (done 1 64) 1
-unfolding comps reclaims finished held lives polls pubs
+pub before-it-came-back : ItsOwnBefore (until 22) (done 1 64) 1
+unfolding comps reclaims finished held standing polls pubs
 before-it-came-back = let k = demand.its-own-before (first 23) (until 22) (done 1 64) (spoken 23) in go (k .0) (k .1)
   where
-    go : (p : ℕ) → OwnBefore (until 22) (done 1 64) p → OwnBefore (until 22) (done 1 64) 1
+    go : (p : ℕ) → ItsOwnBefore (until 22) (done 1 64) p → ItsOwnBefore (until 22) (done 1 64) 1
     go zero o = absurd (omega (arith, ap (λ (x : Poll). x .no) (o .completed ∙ sym (o .stands))))
     go (suc zero) o = o
     go (suc (suc p)) o = absurd (o .published)
@@ -242,7 +229,7 @@ frees-two = demand.frees-its-own (first 24) (until 23) (done 2 32) (spoken 24) 0
 
 -- `new-id`: i's ID is not that of g, which is completed and not yet returned, nor of h, which is held; none waits
 pub new-id-of-i : Unlike (i .id) (g ∷ []) × Unlike (i .id) (h ∷ []) × Unlike (i .id) []
-unfolding pubs reclaims finished held lives polls
+unfolding pubs reclaims finished held standing polls
 new-id-of-i = demand.new-id (first 61) (until 60) i (spoken 61)
 
 -- `next-is-free`: with g and h out next_id can only answer 0
@@ -303,6 +290,55 @@ no-next =
     not-below : 3 < 3 → ⊥
     not-below y = omega (arith, y)
 
+-- ---- counts: c, d and e are out, of one slot each; after two of three polls the consumer holds c and d
+
+abbrev outAt : (k : ℕ) (q : ProducerQuestion) (f : ℕ → ℕ) → Type 0
+outAt k q f = producerAnswers (world k) q ≡ answer.done (f (slotsIn (out (until k))) ∷ [])
+
+abbrev heldAt : (k : ℕ) (q : ConsumerQuestion) (f : ℕ → ℕ) → Type 0
+heldAt k q f = consumerAnswers (world k) q ≡ answer.done (f (slotsIn (items (held (until k)))) ∷ [])
+
+out-at : (k : ℕ) (q : ProducerQuestion) (f : ℕ → ℕ) → producerAnswers (world k) q ≡ answer.done (f (slotsIn (out (historyIn (first k)))) ∷ []) → outAt k q f
+out-at k q f z = subst (λ t. producerAnswers (world k) q ≡ answer.done (f (slotsIn (out t)) ∷ [])) (spoken k) z
+
+held-at : (k : ℕ) (q : ConsumerQuestion) (f : ℕ → ℕ) → consumerAnswers (world k) q ≡ answer.done (f (slotsIn (items (held (historyIn (first k))))) ∷ []) → heldAt k q f
+held-at k q f z = subst (λ t. consumerAnswers (world k) q ≡ answer.done (f (slotsIn (items (held t))) ∷ [])) (spoken k) z
+
+-- `producer-num-free`, `producer-num-inflight`, `producer-is-full`, `producer-len`
+pub producer-counts :
+    (producerAnswers (world 28) producerNumFree ≡ answer.done (0 ∷ []))
+    × (producerAnswers (world 28) producerNumInflight ≡ answer.done (3 ∷ []))
+    × (producerAnswers (world 28) producerIsFull ≡ answer.done (1 ∷ []))
+    × (producerAnswers (world 28) producerLen ≡ answer.done (3 ∷ []))
+unfolding out
+producer-counts = (
+  out-at 28 producerNumFree (λ n. 3 - n) (counted.producer-num-free (first 28)),
+  out-at 28 producerNumInflight (λ n. n) (counted.producer-num-inflight (first 28)),
+  out-at 28 producerIsFull (λ n. bit (eqb n 3)) (counted.producer-is-full (first 28)),
+  counted.producer-len (first 28),
+)
+
+-- `consumer-num-free`, `consumer-num-inflight`, `consumer-is-full`, `consumer-len`
+pub consumer-counts :
+    (consumerAnswers (world 32) consumerNumFree ≡ answer.done (1 ∷ []))
+    × (consumerAnswers (world 32) consumerNumInflight ≡ answer.done (2 ∷ []))
+    × (consumerAnswers (world 32) consumerIsFull ≡ answer.done (0 ∷ []))
+    × (consumerAnswers (world 32) consumerLen ≡ answer.done (3 ∷ []))
+unfolding held polls
+consumer-counts = (
+  held-at 32 consumerNumFree (λ n. 3 - n) (counted.consumer-num-free (first 32)),
+  held-at 32 consumerNumInflight (λ n. n) (counted.consumer-num-inflight (first 32)),
+  held-at 32 consumerIsFull (λ n. bit (eqb n 3)) (counted.consumer-is-full (first 32)),
+  counted.consumer-len (first 32),
+)
+
+-- `num-free-grows`: before a's completion came back num_free answered 1, behind it it answers 1 and the two slots of a
+pub two-more-are-free : producerAnswers (world 24) producerNumFree ≡ answer.done ((1 + 2) ∷ [])
+unfolding pubs reclaims out
+two-more-are-free =
+    counted.num-free-grows (first 24) (until 23) (done 2 32) (spoken 24) 0 second-is-of-a a refl 1
+    (out-at 23 producerNumFree (λ n. 3 - n) (counted.producer-num-free (first 23)))
+
 -- ---- rollbacks
 
 -- `rollback-accepted`: two polls came since the checkpoint, and the rollback that names both is accepted
@@ -312,17 +348,17 @@ roll-two = does (rollbackPolls c2 (2 ∷ 1 ∷ [])) tt
 pub rolls-back : after 50 roll-two ≡ said.rolled c2 (2 ∷ 1 ∷ [])
 unfolding says ownSays
 rolls-back =
-    either-keeps (λ v. after 50 roll-two ≡ v → after 50 roll-two ≡ said.rolled c2 (2 ∷ 1 ∷ [])) (rollbackOf (world 50 .cons) (world 50 .held) c2 (2 ∷ 1 ∷ []) .answer) _ _
+    either-keeps (λ v. after 50 roll-two ≡ v → after 50 roll-two ≡ said.rolled c2 (2 ∷ 1 ∷ [])) (rollbackOf (world 50 .cons) (world 50 .heldCounts) c2 (2 ∷ 1 ∷ []) .answer) _ _
     (λ z. z)
     (λ z. absurd (demand.rollback-accepted (first 51) (until 50) c2 (2 ∷ 1 ∷ []) _ _ (reads 50 roll-two refl _ z) undoes-two)) refl
 
 -- `rolls-back`: behind it the polls stand that stood at its checkpoint, and g and h wait again
-pub stand-again : lives (until 51) ≡ lives (until 47)
+pub stand-again : standing (until 51) ≡ standing (until 47)
 unfolding undoes-two
 stand-again = demand.rolls-back (first 51) (until 50) c2 (2 ∷ 1 ∷ []) (spoken 51) (undoes-two .undoes) .0 ∙ undoes-two .stand
 
-since-c2 : items (said.after (polls (until 47)) (lives (until 50))) ++ waiting (until 50) ≡ g ∷ h ∷ []
-unfolding pubs polls lives
+since-c2 : items (said.after (polls (until 47)) (standing (until 50))) ++ waiting (until 50) ≡ g ∷ h ∷ []
+unfolding pubs polls standing
 since-c2 = refl
 
 pub wait-again : waiting (until 51) ≡ g ∷ h ∷ []
@@ -355,7 +391,7 @@ neither-of-them n z = demand.never-seven-or-eight (first 25) (until 24) said.rec
 abbrev poll-astray : Foreign
 poll-astray = consumers outsider (zeros 40) (zeros 3) (pollAvailable (zeros 3) (zeros 3))
 
-pub left-alone : ownLeaves (astrayIn (world 66) poll-astray) (asked poll-astray) ≡ astrayIn (world 66) poll-astray
+pub left-alone : ownLeaves (astrayIn (world 66) poll-astray) (callOf poll-astray) ≡ astrayIn (world 66) poll-astray
 left-alone = astray-leaves (world 66) poll-astray 8 (ap latest (sym (answered 66 (strays poll-astray) refl) ∙ spoken 67)) (inr refl)
   where
     latest : History Checkpoint → Event Checkpoint

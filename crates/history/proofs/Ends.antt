@@ -1,7 +1,7 @@
 -- Rings of two and of three slots, each opened by two fresh ends over zero bytes; the calls of both ends, written short; and histories of
 -- which nothing is asked.
 -- Assumes nothing.
-use Prim.Native.Nat.{ℕ, zero, suc, _+_, _^_, _<_}
+use Prim.Native.Nat.{ℕ, zero, suc, _+_, _*_, _^_, _<_}
 use mathlib.Core.Path.{_≡_, refl}
 use mathlib.Core.List.{List, [], _∷_}
 use mathlib.Core.Bool.{Bool, true, false, false≢true, _&&_}
@@ -28,21 +28,47 @@ use Rattle.packed.specs.Opening.{Opening, openedWorld}
 abbrev pub zeros : ℕ → List ℕ
 zeros n = replicate n 0
 
--- two slots: the table at 0, the driver's event area at 32, the device's at 36; 40 bytes
-pub two : Opening 2 0 32 36 (zeros 40) (zeros 2) (zeros 2) (zeros 2)
+-- n slots over zero bytes: the table, then the driver's event area and the device's; and that both openings are accepted
+abbrev pub Accepted : ℕ → Type 0
+Accepted n =
+    (made.openOf n 0 (n * 16) (n * 16 + 4) (zeros (n * 16 + 8)) (zeros n) (zeros n) .answer .number ≡ 0)
+    × (taken.openOf n 0 (n * 16) (n * 16 + 4) (zeros (n * 16 + 8)) (zeros n) .answer .number ≡ 0)
+
+abbrev pub over-zeros : (n : ℕ) → Accepted n → Opening
+over-zeros n a =
+    record {
+      size = n;
+      table = 0;
+      driver = n * 16;
+      device = n * 16 + 4;
+      ring = zeros (n * 16 + 8);
+      ids = zeros n;
+      counts = zeros n;
+      heldCounts = zeros n;
+      producer = a .0;
+      consumer = a .1;
+      zeroed = λ k h. getD-replicate (n * 16 + 8) (0 + k) 0 0 (omega (arith, h));
+    }
+
+pub two-accepted : Accepted 2
 unfolding made.openOf made.freshOf taken.openOf taken.freshOf badLayout outside apart upFrom
-two = record { producer = refl; consumer = refl; zeroed = λ k h. getD-replicate 40 (0 + k) 0 0 (omega (arith, h)) }
+two-accepted = (refl, refl)
+
+abbrev pub two : Opening
+two = over-zeros 2 two-accepted
 
 abbrev pub world-two : World
-world-two = openedWorld 2 0 32 36 (zeros 40) (zeros 2) (zeros 2) (zeros 2)
+world-two = openedWorld two
 
--- three slots: 56 bytes
-pub three : Opening 3 0 48 52 (zeros 56) (zeros 3) (zeros 3) (zeros 3)
+pub three-accepted : Accepted 3
 unfolding made.openOf made.freshOf taken.openOf taken.freshOf badLayout outside apart upFrom
-three = record { producer = refl; consumer = refl; zeroed = λ k h. getD-replicate 56 (0 + k) 0 0 (omega (arith, h)) }
+three-accepted = (refl, refl)
+
+abbrev pub three : Opening
+three = over-zeros 3 three-accepted
 
 abbrev pub world-three : World
-world-three = openedWorld 3 0 48 52 (zeros 56) (zeros 3) (zeros 3) (zeros 3)
+world-three = openedWorld three
 
 -- ---- calls with arguments of their types
 

@@ -3,3 +3,4 @@ pub mod Applied
 pub mod Ends
 pub mod Run
 pub mod Without
+pub mod Again

@@ -16,12 +16,13 @@ use Rattle.producer.specs.Notices as usedNotices
 use Rattle.consumer.specs.declared.RingConsumer.{RingConsumer}
 use Rattle.consumer.specs.declared.Checkpoint.{Checkpoint}
 use Rattle.consumer.specs.Complete.{completeOf, tellOf}
-use Rattle.queue.specs.History.{Item, History, items, pubs, polls, comps, reclaims, lives, held, finished, out}
+use Rattle.queue.specs.History.{Item, History, items, pubs, polls, comps, reclaims, standing, held, finished, out}
 use Rattle.queue.specs.History as said
 use Rattle.queue.specs.Promise.{Undoes, UndoesAll, Asked, Each, Fifo}
 use Rattle.queue.specs.Machine.{worldOf, historyOf}
 use Rattle.packed.specs.Calls.{oneOf, submitAvailableWithNotify, submitOneWithNotify, pollUsed, nextId, producerAsked, producerNumFree, shouldNotifySince, turnUsed, enableUsedDesc, enableUsedForNext, submitUsedWithNotify, peekAvailable, pollCheckpoint, rollbackPolls, consumerAsked, consumerIsFull, turnAvail, enableAvailDesc, enableAvailForNext, pollAvailable, producers, consumers}
 use Rattle.packed.specs.Machine.{World, Given, packed, tellsOf}
+use Rattle.packed.specs.Opening.{Run}
 use Rattle.packed.proofs.Packed.{demand-3}
 use Rattle.history.proofs.Computing.{computing}
 use Rattle.history.proofs.Ends.{zeros, three, world-three, typed, does, strays, item, done, chain, submits, submitsOne, completes, ids-fit, polls-for, checkpoint, nothing-asked}
@@ -362,7 +363,7 @@ pub record Cursors : Type 0 where
   pub ids-last : after-all .ids ≡ 1 ∷ 2 ∷ 0 ∷ []
   -- the consumer asks to be told of b, whose submission answers its ID and yes; the producer, its notifications off, of no completion
   pub told-of-b : tellsOf after-2 (b .chain) .answer ≡ answer.done (1 ∷ 1 ∷ [])
-  pub not-told : tellOf (turned-off .cons .used) (completeOf (turned-off .cons) (turned-off .ring) (turned-off .held) 1 64) .answer ≡ answer.done (0 ∷ [])
+  pub not-told : tellOf (turned-off .cons .used) (completeOf (turned-off .cons) (turned-off .ring) (turned-off .heldCounts) 1 64) .answer ≡ answer.done (0 ∷ [])
 
 pub cursors : Cursors
 unfolding computing
@@ -407,8 +408,8 @@ pub record Armed : Type 0 where
   pub told-since : usedNotices.sinceOf (after-8 .prod) (after-8 .ring) (at 0 false) ≡ answer.done (1 ∷ [])
   -- the driver's at slot 0 in that round: the completion of g passes it, and that of h does not
   pub driver-armed : getOf (armed-used .ring) 48 4 ≡ 0 ∷ 0 ∷ 2 ∷ 0 ∷ []
-  pub told-of-completion : tellOf (armed-used .cons .used) (completeOf (armed-used .cons) (armed-used .ring) (armed-used .held) 1 4) .answer ≡ answer.done (1 ∷ [])
-  pub not-told-of-next : tellOf (after-9 .cons .used) (completeOf (after-9 .cons) (after-9 .ring) (after-9 .held) 2 0) .answer ≡ answer.done (0 ∷ [])
+  pub told-of-completion : tellOf (armed-used .cons .used) (completeOf (armed-used .cons) (armed-used .ring) (armed-used .heldCounts) 1 4) .answer ≡ answer.done (1 ∷ [])
+  pub not-told-of-next : tellOf (after-9 .cons .used) (completeOf (after-9 .cons) (after-9 .ring) (after-9 .heldCounts) 2 0) .answer ≡ answer.done (0 ∷ [])
   -- slot 2 in the round that is true; turned off, the device's area keeps its offset word; turned on, the driver's
   pub device-at-two : getOf (armed-two .ring) 52 4 ≡ 2 ∷ 128 ∷ 2 ∷ 0 ∷ []
   pub device-off : getOf (after-all .ring) 52 4 ≡ 2 ∷ 128 ∷ 1 ∷ 0 ∷ []
@@ -434,7 +435,7 @@ armed =
 pub record Told : Type 0 where
   -- the polls that stand gave all that was published, in that order; the polls of a, g and h that were rolled back are not among them
   pub published : pubs history ≡ a ∷ b ∷ c ∷ d ∷ e ∷ f ∷ g ∷ h ∷ i ∷ []
-  pub polled : items (lives history) ≡ a ∷ b ∷ c ∷ d ∷ e ∷ f ∷ g ∷ h ∷ i ∷ []
+  pub polled : items (standing history) ≡ a ∷ b ∷ c ∷ d ∷ e ∷ f ∷ g ∷ h ∷ i ∷ []
   pub polls-made : polls history ≡ 12
   -- b was completed before a, and e before c and d
   pub completed : items (finished history) ≡ b ∷ a ∷ e ∷ c ∷ d ∷ f ∷ g ∷ h ∷ i ∷ []
@@ -443,14 +444,14 @@ pub record Told : Type 0 where
   pub nothing-out : out history ≡ []
 
 pub told-by-it : Told
-unfolding pubs polls lives held finished comps reclaims out
+unfolding pubs polls standing held finished comps reclaims out
 told-by-it = record { published = refl; polled = refl; polls-made = refl; completed = refl; came-back = refl; nothing-out = refl }
 
 -- ---- the premise on rollbacks
 
 -- the first undoes the one poll since its checkpoint
 undoes-one : Undoes polled-once c0 (2 ∷ [])
-unfolding comps polls lives
+unfolding comps polls standing
 undoes-one = record { since = said.polled a ∷ []; before = history-1; took = refl; none-completed = refl; names = λ y. refl }
 
 -- the second undoes nothing: no poll came since
@@ -459,12 +460,12 @@ before-second =
     said.polled b ∷ said.looked (said.refused (said.submit (oneOf 4096 8 false)) true 3) ∷ said.submitted b ∷ history-2
 
 undoes-none : Undoes polled-twice c1 []
-unfolding comps polls lives
+unfolding comps polls standing
 undoes-none = record { since = []; before = before-second; took = refl; none-completed = refl; names = λ y. refl }
 
 -- the third undoes two, named in the other order; every poll that stood at its checkpoint stands still
 unfoldable pub undoes-two : UndoesAll polled-two c2 (2 ∷ 1 ∷ [])
-unfolding comps polls lives
+unfolding comps polls standing
 undoes-two =
     record {
       undoes =
@@ -515,8 +516,11 @@ asked = ((((((((((((asked-9, tt), tt), tt), tt), tt), inr refl), tt), tt), tt), 
 pub meets : Each (Asked Undoes) (historyOf packed world-three calls)
 meets = subst (Each (Asked Undoes)) (sym answers) asked
 
+abbrev pub whole : Run
+whole = record { opening = three; calls = calls; premise = meets }
+
 pub run-fifo : Fifo 3 (historyOf packed world-three calls)
-run-fifo = demand-3 3 0 48 52 (zeros 56) (zeros 3) (zeros 3) (zeros 3) three calls meets
+run-fifo = demand-3 whole
 
 -- the same, of the answers as they stand above
 pub history-fifo : Fifo 3 history

@@ -9,7 +9,7 @@ use native.Mathlib.Omega.{arith}
 use lib.ListN.{length}
 use Rattle.cursor.specs.Cursor.{at}
 use Rattle.consumer.specs.declared.Checkpoint.{Checkpoint}
-use Rattle.queue.specs.History.{Item, History, slotsOf, items, ids, after, times, pubs, polls, comps, lives, held, finished, out}
+use Rattle.queue.specs.History.{Item, History, slotsOf, items, ids, after, times, pubs, polls, comps, standing, held, finished, out}
 use Rattle.queue.specs.History as said
 use Rattle.queue.specs.Promise.{Has, Undoes, Asked, Each, Right, Fifo}
 use Rattle.queue.specs.Machine.{historyOf}
@@ -17,7 +17,7 @@ use Rattle.packed.specs.Calls.{oneOf, pollUsed, pollCheckpoint, rollbackPolls}
 use Rattle.packed.specs.Machine.{Given, packed}
 use Rattle.packed.proofs.Packed.{demand-3}
 use Rattle.history.proofs.Computing.{computing}
-use Rattle.history.proofs.Ends.{zeros, two, three, world-two, world-three, does, item, done, chain, submits, submitsOne, completes, polls-for, checkpoint, nothing-asked}
+use Rattle.history.proofs.Ends.{two, three, world-two, world-three, does, item, done, chain, submits, submitsOne, completes, polls-for, checkpoint, nothing-asked}
 
 -- by demand 3 poll_available and poll_used, given what is good, are refused with 3 alone
 not-five : {A : Type 0} → _≡_ {A = ℕ} 5 3 × A → ⊥
@@ -90,13 +90,13 @@ older-answers = refl
 pub record OlderKept : Type 0 where
   pub took : older-polled ≡ (said.polled b ∷ []) ++ (said.marked between ∷ older-taken)
   pub none-completed : comps older-polled ≡ comps older-taken
-  pub as-many : length {A = ℕ} (1 ∷ []) ≡ length (after (polls older-taken) (lives older-polled))
+  pub as-many : length {A = ℕ} (1 ∷ []) ≡ length (after (polls older-taken) (standing older-polled))
   pub is-held : Has 1 (held older-polled)
   -- the one poll since is of ID 0
-  pub since : ids (after (polls older-taken) (lives older-polled)) ≡ 0 ∷ []
+  pub since : ids (after (polls older-taken) (standing older-polled)) ≡ 0 ∷ []
 
 pub older-kept : OlderKept
-unfolding comps polls lives held
+unfolding comps polls standing held
 older-kept = record { took = refl; none-completed = refl; as-many = refl; is-held = inl refl; since = refl }
 
 -- four answers after it are wrong
@@ -119,7 +119,7 @@ older-not-fifo f = older-wrong .stuck (subst (Fifo 2) older-answers f .1)
 
 -- so the premise is not met
 pub older-unmet : Each (Asked Undoes) (historyOf packed world-two older-calls) → ⊥
-older-unmet m = older-not-fifo (demand-3 2 0 32 36 (zeros 40) (zeros 2) (zeros 2) (zeros 2) two older-calls m)
+older-unmet m = older-not-fifo (demand-3 (record { opening = two; calls = older-calls; premise = m }))
 
 -- ---- (b) "with no completion between": a rollback after a completion, which the ring itself refuses
 
@@ -163,8 +163,12 @@ between-answers = refl
 -- so nothing goes wrong: a rollback that is refused changes nothing, and nothing is asked of it
 pub between-fifo : Fifo 2 (historyOf packed world-two between-calls)
 between-fifo =
-    demand-3 2 0 32 36 (zeros 40) (zeros 2) (zeros 2) (zeros 2) two between-calls
-    (subst (Each (Asked Undoes)) (sym between-answers) (nothing-asked between-history tt))
+    demand-3
+    (record {
+      opening = two;
+      calls = between-calls;
+      premise = subst (Each (Asked Undoes)) (sym between-answers) (nothing-asked between-history tt);
+    })
 
 -- ---- (c) "with no completion between": completions of exactly twice the ring's size, after which the ring does not refuse it
 
@@ -277,10 +281,10 @@ pub record StaleMistaken : Type 0 where
   -- before poll_used returned it r was out, and behind it is not; r was never polled
   pub out-before : out stale-again ≡ p ∷ r ∷ []
   pub out-behind : out stale-mistaken ≡ p ∷ []
-  pub polled : items (lives stale-mistaken) ≡ x ∷ z ∷ p ∷ q ∷ []
+  pub polled : items (standing stale-mistaken) ≡ x ∷ z ∷ p ∷ q ∷ []
 
 pub stale-mistakes : StaleMistaken
-unfolding pubs finished held out lives polls
+unfolding pubs finished held out standing polls
 stale-mistakes = record { published = refl; completed = refl; out-before = refl; out-behind = refl; polled = refl }
 
 pub stale-wrong : Right 2 stale-last (said.looked (said.refused said.reclaim true 5)) → ⊥
@@ -290,7 +294,7 @@ pub stale-not-fifo : Fifo 2 (historyOf packed world-two stale-calls) → ⊥
 stale-not-fifo f = stale-wrong (subst (Fifo 2) stale-answers f .1)
 
 pub stale-unmet : Each (Asked Undoes) (historyOf packed world-two stale-calls) → ⊥
-stale-unmet m = stale-not-fifo (demand-3 2 0 32 36 (zeros 40) (zeros 2) (zeros 2) (zeros 2) two stale-calls m)
+stale-unmet m = stale-not-fifo (demand-3 (record { opening = two; calls = stale-calls; premise = m }))
 
 -- ---- (d) "a checkpoint that its end took": one that no poll_checkpoint answered, though it passes 9's tests
 
@@ -344,14 +348,14 @@ slots-second (i ∷ []) = 0
 slots-second (i ∷ j ∷ is) = slotsOf (j .chain)
 
 pub forged-wrong : Right 3 forged-rolled (said.polled half) → ⊥
-unfolding pubs lives slots-second
+unfolding pubs standing slots-second
 forged-wrong r = omega (arith, ap slots-second (r .1))
 
 pub forged-not-fifo : Fifo 3 (historyOf packed world-three forged-calls) → ⊥
 forged-not-fifo f = forged-wrong (subst (Fifo 3) forged-answers f .1)
 
 pub forged-unmet : Each (Asked Undoes) (historyOf packed world-three forged-calls) → ⊥
-forged-unmet m = forged-not-fifo (demand-3 3 0 48 52 (zeros 56) (zeros 3) (zeros 3) (zeros 3) three forged-calls m)
+forged-unmet m = forged-not-fifo (demand-3 (record { opening = three; calls = forged-calls; premise = m }))
 
 -- the same with no completion at all: the poll after it looks inside of t, whose ID is still held, and is refused with 5
 abbrev within : Checkpoint
@@ -384,4 +388,4 @@ pub inner-not-fifo : Fifo 3 (historyOf packed world-three inner-calls) → ⊥
 inner-not-fifo f = inner-wrong (subst (Fifo 3) inner-answers f .1)
 
 pub inner-unmet : Each (Asked Undoes) (historyOf packed world-three inner-calls) → ⊥
-inner-unmet m = inner-not-fifo (demand-3 3 0 48 52 (zeros 56) (zeros 3) (zeros 3) (zeros 3) three inner-calls m)
+inner-unmet m = inner-not-fifo (demand-3 (record { opening = three; calls = inner-calls; premise = m }))

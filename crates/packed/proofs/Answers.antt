@@ -45,7 +45,7 @@ pub poll-counts :
     (w : World) (outs louts : List ℕ) → leb (w .cons .layout .size) (length outs) && leb (w .cons .layout .size) (length louts) ≡ true
     → T (isPoll (says w (own (pollAvailable outs louts))))
 unfolding says ownSays
-poll-counts w outs louts g = either-keeps (λ e. T (isPoll e)) (pollOf (w .cons) (w .ring) (w .held) outs louts .answer) _ _ tt (subst T (sym g) tt)
+poll-counts w outs louts g = either-keeps (λ e. T (isPoll e)) (pollOf (w .cons) (w .ring) (w .heldCounts) outs louts .answer) _ _ tt (subst T (sym g) tt)
 
 pub reclaim-counts : (w : World) → T (isReclaim (says w (own pollUsed)))
 unfolding says ownSays

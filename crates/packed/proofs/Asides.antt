@@ -10,17 +10,15 @@ use lib.Dec.{ltb}
 use lib.ListN.{length}
 use borrow.Author.Tests.{le-ltb, le-leb}
 use Rattle.base.specs.Answer.{Answer, done, refused}
-use Rattle.base.specs.Bytes.{getOf}
-use Rattle.base.proofs.Tests.{by-lt, by-eq}
+use Rattle.base.proofs.Tests.{by-lt}
 use Rattle.cursor.specs.declared.RingCursor.{RingCursor}
 use Rattle.layout.specs.declared.Layout.{Layout}
 use Rattle.layout.specs.Layout.{badLayout, tableBytes}
 use Rattle.layout.proofs.Laws.{Apart, laid}
 use Rattle.ring.specs.Slots.{placeOf}
-use Rattle.ring.specs.Events.{turned, armed}
 use Rattle.ring.specs.Asked.{askOf}
 use Rattle.ring.proofs.Asked.{ask-good}
-use Rattle.ring.proofs.Frames.{Clear, slot-by-bytes, turned-length, turned-clear, armed-length, armed-clear}
+use Rattle.ring.proofs.Frames.{Clear, EventAlone, slot-by-bytes, turned-alone, armed-alone}
 use Rattle.producer.specs.declared.RingProducer.{RingProducer}
 use Rattle.producer.specs.Record as made
 use Rattle.producer.specs.Outcome as madeOutcome
@@ -90,21 +88,11 @@ module _ (l : Layout) (laid-out : badLayout l ≡ false) where
     abbrev shadowed : ℕ → ℕ → List ℕ → World
     shadowed = with-shadows l laid-out ret w q k
 
-    -- bytes outside of an event area that is no part of the table are as they were
-    event-like : (at : ℕ) → Apart (l .table) (tableBytes l) at 4 → (s t : ℕ) (r : List ℕ) → length r ≡ length (w .ring)
-        → ((place : ℕ) → Clear at 4 place 16 → getOf r place 16 ≡ getOf (w .ring) place 16) → Like l ret (shadowed s t r) q
-    event-like at apart s t r e h =
-        like-same l laid-out ret w q k s t r e
-        (λ p. sym (slot-by-bytes (l .table) (pos size p) r (w .ring) (h (placeOf (l .table) (pos size p)) (event-clear at p apart))))
-
-    -- the area at a place turned, and armed
-    turned-like : (at : ℕ) → Apart (l .table) (tableBytes l) at 4 → (s t f : ℕ) → Like l ret (shadowed s t (turned at f (w .ring))) q
-    turned-like at apart s t f =
-        event-like at apart s t (turned at f (w .ring)) (turned-length at (w .ring) f) (λ p. turned-clear at (w .ring) f p 16)
-
-    armed-like : (at : ℕ) → Apart (l .table) (tableBytes l) at 4 → (s t o : ℕ) (b : Bool) → Like l ret (shadowed s t (armed at o b (w .ring))) q
-    armed-like at apart s t o b =
-        event-like at apart s t (armed at o b (w .ring)) (armed-length at (w .ring) o b) (λ p. armed-clear at (w .ring) o b p 16)
+    -- bytes that differ in an event area alone, which is no part of the table
+    event-like : (at : ℕ) → Apart (l .table) (tableBytes l) at 4 → (s t : ℕ) (r : List ℕ) → EventAlone at (w .ring) r → Like l ret (shadowed s t r) q
+    event-like at apart s t r a =
+        like-same l laid-out ret w q k s t r (a .same-length)
+        (λ p. sym (slot-by-bytes (l .table) (pos size p) r (w .ring) (a .clear (placeOf (l .table) (pos size p)) 16 (event-clear at p apart))))
 
     -- a call of either end whose outcome o is x, answered, with a world behind it that is like the queue
     module _ {O : Type 0} (answerOf : O → Answer) (behind : O → World) where
@@ -120,23 +108,25 @@ module _ (l : Layout) (laid-out : badLayout l ≡ false) where
     used-good : (o x : madeOutcome.Changed) → o ≡ x → x .answer ≡ done [] → Like l ret (afterUsedTurn w x) q → Good l q (saysQuiet true (o .answer)) (afterUsedTurn w o)
     used-good = outcome-good (λ x. x .answer) (afterUsedTurn w)
 
-    p-goes : usedNotices.bytesRefusal (w .prod) (length (w .ring)) ≡ 0
+    p-goes : made.bytesRefusal (w .prod) (length (w .ring)) ≡ 0
     p-goes = makes.bytes-goes (w .prod) (length (w .ring)) (p-sound l laid-out ret w q k) (p-whole l laid-out ret w q k)
 
     -- the record with other flags in its shadow, written out
     p-shadow : (f : ℕ) (r : List ℕ) → madeOutcome.changed (done []) (usedNotices.shadowOf (w .prod) f) r ≡ madeOutcome.changed (done []) (shadowed f 0 r .prod) r
     p-shadow f r = ap (λ (p : RingProducer). madeOutcome.changed (done []) p r) (makes.shadow-is (w .prod) f)
 
+    notice-used-good :
+        (f : ℕ) (r : List ℕ) → EventAlone (w .prod .layout .driver) (w .ring) r
+        → Good l q (saysQuiet true (usedNotices.noticeOf (w .prod) (w .ring) f r .answer)) (afterUsedTurn w (usedNotices.noticeOf (w .prod) (w .ring) f r))
+    notice-used-good f r a =
+        used-good _ _ (usedLaws.notice-done (w .prod) (w .ring) f r p-goes ∙ p-shadow f r) refl (event-like (w .prod .layout .driver) driver-apart f (w .cons .shadow) r a)
+
     pub turn-used-good : (f : ℕ) → Good l q (saysQuiet true (usedNotices.turnOf (w .prod) (w .ring) f .answer)) (afterUsedTurn w (usedNotices.turnOf (w .prod) (w .ring) f))
-    turn-used-good f =
-        by-eq (w .prod .shadow) f
-        (λ s. used-good _ _ (usedLaws.turn-kept (w .prod) (w .ring) f p-goes s) refl k)
-        (λ s. used-good _ _ (usedLaws.turn-done (w .prod) (w .ring) f p-goes s ∙ p-shadow f _) refl (turned-like (w .prod .layout .driver) driver-apart f (w .cons .shadow) f))
+    turn-used-good f = notice-used-good f _ (turned-alone (w .prod .layout .driver) (w .ring) (w .prod .shadow) f)
 
     pub arm-used-good :
         (o : ℕ) (b : Bool) → Good l q (saysQuiet true (usedNotices.armOf (w .prod) (w .ring) o b .answer)) (afterUsedTurn w (usedNotices.armOf (w .prod) (w .ring) o b))
-    arm-used-good o b =
-        used-good _ _ (usedLaws.arm-done (w .prod) (w .ring) o b p-goes ∙ p-shadow DESC _) refl (armed-like (w .prod .layout .driver) driver-apart DESC (w .cons .shadow) o b)
+    arm-used-good o b = notice-used-good DESC _ (armed-alone (w .prod .layout .driver) (w .ring) o b)
 
     -- ---- the device's
 
@@ -152,13 +142,15 @@ module _ (l : Layout) (laid-out : badLayout l ≡ false) where
     c-shadow : (f : ℕ) (r : List ℕ) → takenOutcome.changed (done []) (availNotices.shadowOf (w .cons) f) r ≡ takenOutcome.changed (done []) (shadowed 0 f r .cons) r
     c-shadow f r = ap (λ (p : RingConsumer). takenOutcome.changed (done []) p r) (takes.shadow-is (w .cons) f)
 
+    notice-avail-good :
+        (f : ℕ) (r : List ℕ) → EventAlone (w .cons .layout .device) (w .ring) r
+        → Good l q (saysQuiet true (availNotices.noticeOf (w .cons) (w .ring) f r .answer)) (afterAvailTurn w (availNotices.noticeOf (w .cons) (w .ring) f r))
+    notice-avail-good f r a =
+        avail-good _ _ (availLaws.notice-done (w .cons) (w .ring) f r c-goes ∙ c-shadow f r) refl (event-like (w .cons .layout .device) device-apart (w .prod .shadow) f r a)
+
     pub turn-avail-good : (f : ℕ) → Good l q (saysQuiet true (availNotices.turnOf (w .cons) (w .ring) f .answer)) (afterAvailTurn w (availNotices.turnOf (w .cons) (w .ring) f))
-    turn-avail-good f =
-        by-eq (w .cons .shadow) f
-        (λ s. avail-good _ _ (availLaws.turn-kept (w .cons) (w .ring) f c-goes s) refl k)
-        (λ s. avail-good _ _ (availLaws.turn-done (w .cons) (w .ring) f c-goes s ∙ c-shadow f _) refl (turned-like (w .cons .layout .device) device-apart (w .prod .shadow) f f))
+    turn-avail-good f = notice-avail-good f _ (turned-alone (w .cons .layout .device) (w .ring) (w .cons .shadow) f)
 
     pub arm-avail-good :
         (o : ℕ) (b : Bool) → Good l q (saysQuiet true (availNotices.armOf (w .cons) (w .ring) o b .answer)) (afterAvailTurn w (availNotices.armOf (w .cons) (w .ring) o b))
-    arm-avail-good o b =
-        avail-good _ _ (availLaws.arm-done (w .cons) (w .ring) o b c-goes ∙ c-shadow DESC _) refl (armed-like (w .cons .layout .device) device-apart (w .prod .shadow) DESC o b)
+    arm-avail-good o b = notice-avail-good DESC _ (armed-alone (w .cons .layout .device) (w .ring) o b)

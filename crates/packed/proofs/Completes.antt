@@ -27,7 +27,7 @@ use Rattle.consumer.specs.declared.Checkpoint.{Checkpoint}
 use Rattle.consumer.specs.Outcome.{Outcome, outcome}
 use Rattle.consumer.specs.Complete.{completeRefusal, completeOf, tellOf}
 use Rattle.consumer.proofs.Complete.{complete-refused, complete-done}
-use Rattle.consumer.proofs.Goes.{complete-goes, complete-unheld, completed-is, tell-number, tell-end, tell-ring, tell-counts}
+use Rattle.consumer.proofs.Goes.{complete-goes, complete-unheld, completed-is, tell-number, tell-leaves}
 use Rattle.queue.specs.History.{Done, Poll, items, without}
 use Rattle.queue.specs.History as said
 use Rattle.queue.specs.Promise.{Has}
@@ -59,21 +59,21 @@ module _ (l : Layout) (laid-out : badLayout l ≡ false) where
 
   module _ (ret : List Used) (w : World) (q : Queue Checkpoint) (k : Like l ret w q) (id len : ℕ) where
     abbrev completes : Outcome
-    completes = completeOf (w .cons) (w .ring) (w .held) id len
+    completes = completeOf (w .cons) (w .ring) (w .heldCounts) id len
 
     abbrev d : Done
     d = record { id = id; len = len }
 
     abbrev n : ℕ
-    n = getD (w .held) id 0
+    n = getD (w .heldCounts) id 0
 
     -- refused with 5, and not held
-    complete-no : completeRefusal (w .cons) (length (w .ring)) id (w .held) ≡ 5 → (Has id (q .old ++ q .fresh) → ⊥)
+    complete-no : completeRefusal (w .cons) (length (w .ring)) id (w .heldCounts) ≡ 5 → (Has id (q .old ++ q .fresh) → ⊥)
         → Good l q (saysCompleted id len (completes .answer)) (afterCompleted w completes)
     complete-no e h =
-        let t : completes ≡ outcome (refused 5) (w .cons) (w .ring) (w .held) =
-        complete-refused (w .cons) (w .ring) (w .held) id len (λ y. omega (arith, e, y))
-        ∙ ap (λ (x : ℕ). outcome (refused x) (w .cons) (w .ring) (w .held)) e in
+        let t : completes ≡ outcome (refused 5) (w .cons) (w .ring) (w .heldCounts) =
+        complete-refused (w .cons) (w .ring) (w .heldCounts) id len (λ y. omega (arith, e, y))
+        ∙ ap (λ (x : ℕ). outcome (refused x) (w .cons) (w .ring) (w .heldCounts)) e in
         good-by l q _ (said.looked (said.refused (said.complete d) true 5)) _ w
         (either-refused (completes .answer) 5 _ (said.complete d) true (ap (λ (o : Outcome). o .answer) t) (omega arith))
         (ap (afterCompleted w) t)
@@ -104,9 +104,9 @@ module _ (l : Layout) (laid-out : badLayout l ≡ false) where
       tots : tot (O q) + tot (F q) ≡ tot (ofItems (items (without id (q .old ++ q .fresh)))) + n
       tots = omega (arith, out .tot-is, both-tot (q .old) (q .fresh), out-n)
 
-      accepted : completeRefusal (w .cons) (length (w .ring)) id (w .held) ≡ 0
+      accepted : completeRefusal (w .cons) (length (w .ring)) id (w .heldCounts) ≡ 0
       accepted =
-          complete-goes (w .cons) (length (w .ring)) id (w .held) (c-sound l laid-out ret w q k) (c-lent l laid-out ret w q k)
+          complete-goes (w .cons) (length (w .ring)) id (w .heldCounts) (c-sound l laid-out ret w q k) (c-lent l laid-out ret w q k)
           (omega (arith, low, c-size l laid-out ret w q k)) some-held (omega (arith, k .inflight, tots))
 
       abbrev mark : Descriptor
@@ -126,14 +126,14 @@ module _ (l : Layout) (laid-out : badLayout l ≡ false) where
           }
 
       abbrev complete-world : World
-      complete-world = record { prod = w .prod; ids = w .ids; counts = w .counts; cons = cons′; held = set (w .held) id 0; ring = ring′ }
+      complete-world = record { prod = w .prod; ids = w .ids; counts = w .counts; cons = cons′; heldCounts = set (w .heldCounts) id 0; ring = ring′ }
 
-      is-completed : completes ≡ outcome (done []) cons′ ring′ (set (w .held) id 0)
+      is-completed : completes ≡ outcome (done []) cons′ ring′ (set (w .heldCounts) id 0)
       is-completed =
-          complete-done (w .cons) (w .ring) (w .held) id len accepted
+          complete-done (w .cons) (w .ring) (w .heldCounts) id len accepted
           ∙ (λ i.
           outcome (done []) (completed-is (w .cons) n i)
-          (slotPut (k .c-layout i .table) (k .c-used i) (markUsed (descriptor 0 len id 0) (k .c-used i .wrap)) (w .ring)) (set (w .held) id 0))
+          (slotPut (k .c-layout i .table) (k .c-used i) (markUsed (descriptor 0 len id 0) (k .c-used i .wrap)) (w .ring)) (set (w .heldCounts) id 0))
 
       fits : l .table + pos size (k .cu) .head * 16 + 16 ≤ length (w .ring)
       fits = omega (arith, pos-low size (big l laid-out) (k .cu), within l (length (w .ring)) (k .whole) .table)
@@ -196,7 +196,7 @@ module _ (l : Layout) (laid-out : badLayout l ≡ false) where
             whole = ap (outside l) (slot-length (l .table) (pos size (k .cu)) mark (w .ring)) ∙ k .whole;
             ids-whole = k .ids-whole;
             counts-whole = k .counts-whole;
-            held-whole = omega (arith, k .held-whole, length-set (w .held) id 0);
+            held-whole = omega (arith, k .held-whole, length-set (w .heldCounts) id 0);
             spelled =
                 spells-cong size f g (k .ca) (q .waiting) (λ p a b. later p (omega (arith, ahead)) (omega (arith, k .pa-is, k .room, k .cu-is)))
                 (subst (λ (x : ℕ). Spells size f x (q .waiting)) (sym (k .ca-is)) (spells-split size f (k .fa) (items (q .fresh)) (q .waiting) (k .spelled) .1));
@@ -212,7 +212,7 @@ module _ (l : Layout) (laid-out : badLayout l ≡ false) where
             r-pos = used-pos ret u (k .r-pos) some-held;
             once = λ y. omega (arith, k .once y, out .occ-is y, both-occ y (q .old) (q .fresh), occ-used y ret u);
             p-nums = λ y b. omega (arith, k .p-nums y b, out .slots-is y, both-slots y (q .old) (q .fresh), slots-used y ret u, ap (hit id y) out-n);
-            c-nums = λ y b. omega (arith, k .c-nums y b, out .slots-is y, both-slots y (q .old) (q .fresh), at-clear (w .held) id y (omega (arith, low, k .held-whole)), ap (hit id y) out-n);
+            c-nums = λ y b. omega (arith, k .c-nums y b, out .slots-is y, both-slots y (q .old) (q .fresh), at-clear (w .heldCounts) id y (omega (arith, low, k .held-whole)), ap (hit id y) out-n);
             heights = k .heights;
             out-pos = k .out-pos;
             out-occ = λ y. omega (arith, k .out-occ y, out .occ-is y, both-occ y (q .old) (q .fresh), occ-used y ret u);
@@ -240,10 +240,10 @@ module _ (l : Layout) (laid-out : badLayout l ≡ false) where
         by-lt 0 n
         (λ z. complete-gives low z idr lenr)
         (λ z. complete-no
-        (complete-unheld (w .cons) (length (w .ring)) id (w .held) r t (simp (lt-leb (w .cons .layout .size) id (omega (arith, low, c)), eq-eqb n 0 (omega arith))))
+        (complete-unheld (w .cons) (length (w .ring)) id (w .heldCounts) r t (simp (lt-leb (w .cons .layout .size) id (omega (arith, low, c)), eq-eqb n 0 (omega arith))))
         (λ h. omega (arith, held-some h .1, z))))
         (λ high. complete-no
-        (complete-unheld (w .cons) (length (w .ring)) id (w .held) r t (simp (le-leb (w .cons .layout .size) id (omega (arith, high, c)))))
+        (complete-unheld (w .cons) (length (w .ring)) id (w .heldCounts) r t (simp (le-leb (w .cons .layout .size) id (omega (arith, high, c)))))
         (λ h. omega (arith, held-some h .0, high)))
 
     -- WITH NOTIFY: the same, said and left
@@ -253,5 +253,5 @@ module _ (l : Layout) (laid-out : badLayout l ≡ false) where
     told-good idr lenr =
         good-by l q _ (saysCompleted id len (completes .answer)) _ (afterCompleted w completes)
         (ap (λ (m : ℕ). cond (eqb m 0) (said.completed d) (said.looked (said.refused (said.complete d) true m))) (tell-number (w .cons .used) completes))
-        (λ i. record { prod = w .prod; ids = w .ids; counts = w .counts; cons = tell-end (w .cons .used) completes i; held = tell-counts (w .cons .used) completes i; ring = tell-ring (w .cons .used) completes i })
+        (ap (afterCompleted w) (tell-leaves (w .cons .used) completes))
         (complete-good idr lenr)

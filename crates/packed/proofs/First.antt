@@ -18,7 +18,7 @@ use Rattle.desc.specs.declared.Descriptor.{Descriptor}
 use Rattle.event.specs.Event.{ENABLE}
 use Rattle.desc.specs.Flags.{AVAIL, has}
 use Rattle.layout.specs.declared.Layout.{Layout}
-use Rattle.layout.specs.Layout.{layout, badLayout, outside}
+use Rattle.layout.specs.Layout.{badLayout, outside}
 use Rattle.layout.proofs.Laws.{laid, within}
 use Rattle.ring.specs.Tables.{upTo}
 use Rattle.ring.proofs.Laws.{up-length}
@@ -32,14 +32,38 @@ use Rattle.consumer.specs.Fresh as taken
 use Rattle.consumer.proofs.Reset as takenLaws
 use Rattle.consumer.proofs.Goes as takes
 use Rattle.queue.proofs.Model.{start}
-use Rattle.packed.specs.Opening.{Opening, openedWorld}
+use Rattle.packed.specs.Opening.{Opening, layoutOf, producerOpens, consumerOpens, openedWorld}
 use Rattle.packed.proofs.Position.{pos, view, pos-low, pos-start, round-early}
 use Rattle.packed.proofs.Counts.{occS, one, occ-up, one-no}
 use Rattle.packed.proofs.Invariant.{Like}
 
-module _ (size table driver device : ℕ) (ring ids counts held : List ℕ) (o : Opening size table driver device ring ids counts held) where
-  abbrev pub at : Layout
-  at = layout size table driver device
+module _ (o : Opening) where
+  abbrev size : ℕ
+  size = o .size
+
+  abbrev table : ℕ
+  table = o .table
+
+  abbrev driver : ℕ
+  driver = o .driver
+
+  abbrev device : ℕ
+  device = o .device
+
+  abbrev ring : List ℕ
+  ring = o .ring
+
+  abbrev ids : List ℕ
+  ids = o .ids
+
+  abbrev counts : List ℕ
+  counts = o .counts
+
+  abbrev held : List ℕ
+  held = o .heldCounts
+
+  abbrev at : Layout
+  at = layoutOf o
 
   -- what two accepted openings say of the geometry and of what is lent
   opens : badLayout at || outside at (length ring) ≡ false
@@ -81,20 +105,20 @@ module _ (size table driver device : ℕ) (ring ids counts held : List ℕ) (o :
       no-eight : _≡_ {A = ℕ} 8 0 → ⊥
       no-eight e = omega arith
 
-  ids-are : made.openOf size table driver device ring ids counts .ids ≡ sets ids 0 (upTo size)
+  ids-are : producerOpens o .ids ≡ sets ids 0 (upTo size)
   ids-are = ap (λ (x : made.Open). x .ids) (madeLaws.opening-done size table driver device ring ids counts opens tables)
 
-  counts-are : made.openOf size table driver device ring ids counts .counts ≡ sets counts 0 (replicate size 0)
+  counts-are : producerOpens o .counts ≡ sets counts 0 (replicate size 0)
   counts-are = ap (λ (x : made.Open). x .counts) (madeLaws.opening-done size table driver device ring ids counts opens tables)
 
-  held-are : taken.openOf size table driver device ring held .counts ≡ sets held 0 (replicate size 0)
+  held-are : consumerOpens o .counts ≡ sets held 0 (replicate size 0)
   held-are = ap (λ (x : taken.Open). x .counts) (takenLaws.opening-done size table driver device ring held opens held-long)
 
   -- the records of the opened world are those that the openings answered
-  pub made-answer : made.openOf size table driver device ring ids counts .answer ≡ done (made.recordValues (openedWorld size table driver device ring ids counts held .prod))
+  pub made-answer : producerOpens o .answer ≡ done (made.recordValues (openedWorld o .prod))
   made-answer = ap (λ (x : made.Open). x .answer) (madeLaws.opening-done size table driver device ring ids counts opens tables)
 
-  pub taken-answer : taken.openOf size table driver device ring held .answer ≡ done (taken.recordValues (openedWorld size table driver device ring ids counts held .cons))
+  pub taken-answer : consumerOpens o .answer ≡ done (taken.recordValues (openedWorld o .cons))
   taken-answer = ap (λ (x : taken.Open). x .answer) (takenLaws.opening-done size table driver device ring held opens held-long)
 
   zeros-at : (t : List ℕ) (y : ℕ) → size ≤ length t → y < size → getD (sets t 0 (replicate size 0)) y 0 ≡ 0
@@ -113,7 +137,7 @@ module _ (size table driver device : ℕ) (ring ids counts held : List ℕ) (o :
       ap (λ (i : ℕ). getD ring i 0) (omega arith)
       ∙ o .zeroed (pos size p .head * 16 + k) (omega (arith, b))))
 
-  pub first-like : Like at [] (openedWorld size table driver device ring ids counts held) start
+  pub first-like : Like at [] (openedWorld o) start
   first-like =
       let big = laid at laid-out .low in
       let p = makes.fresh-is at in
@@ -166,12 +190,12 @@ module _ (size table driver device : ℕ) (ring ids counts held : List ℕ) (o :
 
       stacked :
           (y : ℕ) → made.freshOf at ≡ record { layout = at; avail = fresh; used = fresh; free = size; height = size; shadow = ENABLE }
-          → occS y (take (made.freshOf at .height) (made.openOf size table driver device ring ids counts .ids)) + (0 + (0 + 0) + 0) ≡ one size y
+          → occS y (take (made.freshOf at .height) (producerOpens o .ids)) + (0 + (0 + 0) + 0) ≡ one size y
       stacked y p =
           let n = up-length 0 size in
           let t : take size (sets ids 0 (upTo size)) ≡ upTo size =
           ap (λ (m : ℕ). take m (sets ids 0 (upTo size))) (sym n) ∙ part-same (upTo size) ids 0 (omega (arith, n, ids-long)) in
-          let a : occS y (take (made.freshOf at .height) (made.openOf size table driver device ring ids counts .ids)) ≡ occS y (upTo size) =
-          ap (λ (x : RingProducer). occS y (take (x .height) (made.openOf size table driver device ring ids counts .ids))) p
+          let a : occS y (take (made.freshOf at .height) (producerOpens o .ids)) ≡ occS y (upTo size) =
+          ap (λ (x : RingProducer). occS y (take (x .height) (producerOpens o .ids))) p
           ∙ ap (λ (s : List ℕ). occS y (take size s)) ids-are ∙ ap (occS y) t in
           omega (arith, a, occ-up y 0 size, one-no 0 y (omega arith), ap (λ (m : ℕ). one m y) (zero-add size))

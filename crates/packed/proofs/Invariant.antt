@@ -87,7 +87,7 @@ module _ (l : Layout) where
     pub whole : outside l (length (w .ring)) ≡ false
     pub ids-whole : size ≤ length (w .ids)
     pub counts-whole : size ≤ length (w .counts)
-    pub held-whole : size ≤ length (w .held)
+    pub held-whole : size ≤ length (w .heldCounts)
     -- the slots
     pub spelled : Spells size (view size (l .table) (w .ring)) fa (items (q .fresh) ++ q .waiting)
     pub returned : Returns size (view size (l .table) (w .ring)) pu ret
@@ -102,7 +102,7 @@ module _ (l : Layout) where
     pub once :
         (y : ℕ) → occS y (take (w .prod .height) (w .ids)) + (occ y (W q) + (occ y (O q) + occ y (F q)) + occ y (ofUsed ret)) ≡ one size y
     pub p-nums : (y : ℕ) → y < size → getD (w .counts) y 0 ≡ slots y (W q) + (slots y (O q) + slots y (F q)) + slots y (ofUsed ret)
-    pub c-nums : (y : ℕ) → y < size → getD (w .held) y 0 ≡ slots y (O q) + slots y (F q)
+    pub c-nums : (y : ℕ) → y < size → getD (w .heldCounts) y 0 ≡ slots y (O q) + slots y (F q)
     -- the chains that are out are those that wait, are held, or are completed and not returned
     pub heights : w .prod .height + length (q .out) ≡ size
     pub out-pos : Pos (ofItems (q .out))
@@ -172,8 +172,8 @@ module _ (l : Layout) where
       pub c-whole : outside (w .cons .layout) (length (w .ring)) ≡ false
       c-whole = ap (λ (m : Layout). outside m (length (w .ring))) (k .c-layout) ∙ k .whole
 
-      pub c-lent : takes.badLent (w .cons) (length (w .ring)) (length (w .held)) ≡ false
-      c-lent = polls.not-bad-lent (w .cons) (length (w .ring)) (length (w .held)) c-whole (omega (arith, c-size, k .held-whole))
+      pub c-lent : takes.badLent (w .cons) (length (w .ring)) (length (w .heldCounts)) ≡ false
+      c-lent = polls.not-bad-lent (w .cons) (length (w .ring)) (length (w .heldCounts)) c-whole (omega (arith, c-size, k .held-whole))
 
       -- the producer's next slot holds the round before
       pub edge : has (view size (l .table) (w .ring) (k .pa) .flags) AVAIL ≡ not (round size (k .pa))
@@ -202,7 +202,7 @@ module _ (l : Layout) where
             ids = w .ids;
             counts = w .counts;
             cons = record { layout = w .cons .layout; avail = w .cons .avail; used = w .cons .used; inflight = w .cons .inflight; shadow = t };
-            held = w .held;
+            heldCounts = w .heldCounts;
             ring = r;
           }
 

@@ -15,4 +15,6 @@ pub mod First
 pub mod Packed
 pub mod Astray
 pub mod Promises
+pub mod Counted
+pub mod Reset
 pub mod Tied

@@ -1,22 +1,20 @@
 -- DEMAND 3 for the packed ring: every call of both ends matches the queue, so every history of them is first in, first out, with each
 -- completion meeting its own submission.
 -- Assumes nothing.
-use Prim.Native.Nat.{ℕ}
 use mathlib.Core.Path.{_≡_, sym, ap, subst}
 use mathlib.Core.Bool.{false}
-use mathlib.Core.List.{List, []}
+use mathlib.Core.List.{[]}
 use Rattle.layout.specs.declared.Layout.{Layout}
 use Rattle.layout.specs.Layout.{badLayout}
 use Rattle.consumer.specs.declared.Checkpoint.{Checkpoint}
 use Rattle.queue.specs.History as said
-use Rattle.queue.specs.Promise.{Undoes, Asked, Each, Fifo}
-use Rattle.queue.proofs.Model.{Queue, Undo, Grant}
-use Rattle.queue.specs.Machine.{worldOf, historyOf}
+use Rattle.queue.specs.Promise.{Fifo}
+use Rattle.queue.proofs.Model.{Queue, model, Undo, Grant}
 use Rattle.queue.proofs.Machine.{Matches, honest, matched, machine-fifo}
 use Rattle.packed.specs.Calls.{Own, Call, Typed, TypedCall, oneOf}
 use Rattle.packed.specs.Calls.{submitAvailable, submitAvailableWithNotify, submitOne, submitOneWithNotify, pollUsed, nextId, producerAsked, shouldNotifySince, turnUsed, enableUsedDesc, enableUsedForNext, pollAvailable, submitUsed, submitUsedWithNotify, peekAvailable, pollCheckpoint, rollbackPolls, consumerAsked, turnAvail, enableAvailDesc, enableAvailForNext, own, foreign}
-use Rattle.packed.specs.Machine.{World, producerValues, consumerValues, ownSays, ownLeaves, says, leaves, Given, packed}
-use Rattle.packed.specs.Opening.{Opening, openedWorld}
+use Rattle.packed.specs.Machine.{World, producerValues, consumerValues, ownSays, ownLeaves, says, leaves, packed}
+use Rattle.packed.specs.Opening.{Opening, layoutOf, openedWorld, Run, historyIn, worldIn}
 use Rattle.packed.proofs.Invariant.{Match, Good, like-look}
 use Rattle.packed.proofs.Polls.{poll-good, peek-good}
 use Rattle.packed.proofs.Stack.{next-good}
@@ -25,7 +23,7 @@ use Rattle.packed.proofs.Submits as submits
 use Rattle.packed.proofs.Completes as completes
 use Rattle.packed.proofs.Rollbacks.{mark-good, roll-good}
 use Rattle.packed.proofs.Asides.{producer-asked, consumer-asked, since-good, turn-used-good, arm-used-good, turn-avail-good, arm-avail-good}
-use Rattle.packed.proofs.First.{at, laid-out, first-like}
+use Rattle.packed.proofs.First.{laid-out, first-like}
 
 module _ (l : Layout) (good : badLayout l ≡ false) where
   own-good : (w : World) (q : Queue Checkpoint) (c : Own) → Typed c → Match l w q → Grant Undo q (ownSays w c) → Good l q (ownSays w c) (ownLeaves w c)
@@ -59,30 +57,29 @@ module _ (l : Layout) (good : badLayout l ≡ false) where
 
 -- ---- the promise
 
-module _ (size table driver device : ℕ) (ring ids counts held : List ℕ) (o : Opening size table driver device ring ids counts held) where
-  abbrev world : World
-  world = openedWorld size table driver device ring ids counts held
-
-  matches : Matches packed world size honest
+module _ (o : Opening) where
+  matches : Matches packed (openedWorld o) (o .size) honest
   matches =
       record {
-        Like = Match (at size table driver device ring ids counts held o);
-        first = ([], first-like size table driver device ring ids counts held o);
-        step = λ w q c m g. call-good (at size table driver device ring ids counts held o) (laid-out size table driver device ring ids counts held o) w q (c .call) (c .typed) m g;
+        Like = Match (layoutOf o);
+        first = ([], first-like o);
+        step = λ w q c m g. call-good (layoutOf o) (laid-out o) w q (c .call) (c .typed) m g;
       }
 
-  -- "Take two fresh ends over one zeroed ring, any mix of their calls, no reset, no other writer, each end given back its own last record and
-  -- tables, and each rollback using a checkpoint that its end took and undoing every poll since, with no completion between. Then ..": what
-  -- `Fifo` says (queue/specs/Promise.antt), of every history
-  pub demand-3 : (cs : List Given) → Each (Asked Undoes) (historyOf packed world cs) → Fifo size (historyOf packed world cs)
-  demand-3 cs a = machine-fifo packed world size honest matches cs a
+-- "Take two fresh ends over one zeroed ring, any mix of their calls, no reset, no other writer, each end given back its own last record and
+-- tables, and each rollback using a checkpoint that its end took and undoing every poll since, with no completion between. Then ..": what
+-- `Fifo` says (queue/specs/Promise.antt), of every run
+pub demand-3 : (r : Run) → Fifo (r .opening .size) (historyIn r)
+demand-3 r = machine-fifo packed (openedWorld (r .opening)) (r .opening .size) honest (matches (r .opening)) (r .calls) (r .premise)
 
-  -- both records keep the size that was opened: so "outputs of at least ring-size entries" and "on the ring", as a refusal's event has them,
-  -- are of that size
-  pub size-stays :
-      (cs : List Given) → Each (Asked Undoes) (historyOf packed world cs)
-      → (worldOf packed world cs .prod .layout .size ≡ size) × (worldOf packed world cs .cons .layout .size ≡ size)
-  unfolding matches
-  size-stays cs a =
-      let m = matched packed world size honest matches cs a .1 .1 in
-      (ap (λ (x : Layout). x .size) (m .p-layout), ap (λ (x : Layout). x .size) (m .c-layout))
+-- the invariant, at any point of a run
+pub like-queue : (r : Run) → Match (layoutOf (r .opening)) (worldIn r) (model (historyIn r))
+unfolding matches
+like-queue r = matched packed (openedWorld (r .opening)) (r .opening .size) honest (matches (r .opening)) (r .calls) (r .premise) .1
+
+-- both records keep the size that was opened: so "outputs of at least ring-size entries" and "on the ring", as a refusal's event has them,
+-- are of that size
+pub size-stays : (r : Run) → (worldIn r .prod .layout .size ≡ r .opening .size) × (worldIn r .cons .layout .size ≡ r .opening .size)
+size-stays r =
+    let m = like-queue r .1 in
+    (ap (λ (x : Layout). x .size) (m .p-layout), ap (λ (x : Layout). x .size) (m .c-layout))

@@ -85,26 +85,26 @@ module _ (l : Layout) (laid-out : badLayout l ≡ false) where
 
     -- a refused poll leaves the world as it was
     poll-no :
-        (outs louts : List ℕ) (n : ℕ) (g : Bool) → 0 < n → headRefusal (w .cons) (length (w .ring)) (headOf (w .cons) (w .ring)) (length (w .held)) (length outs) (length louts) 0 ≡ n
+        (outs louts : List ℕ) (n : ℕ) (g : Bool) → 0 < n → headRefusal (w .cons) (length (w .ring)) (headOf (w .cons) (w .ring)) (length (w .heldCounts)) (length outs) (length louts) 0 ≡ n
         → (leb (w .cons .layout .size) (length outs) && leb (w .cons .layout .size) (length louts)) ≡ g
         → (Good l q (said.looked (said.refused said.poll g n)) w)
-        → Good l q (saysPolled (w .cons .layout .size) outs louts (pollOf (w .cons) (w .ring) (w .held) outs louts)) (afterTaken w (pollOf (w .cons) (w .ring) (w .held) outs louts))
+        → Good l q (saysPolled (w .cons .layout .size) outs louts (pollOf (w .cons) (w .ring) (w .heldCounts) outs louts)) (afterTaken w (pollOf (w .cons) (w .ring) (w .heldCounts) outs louts))
     poll-no outs louts n g z e b good =
-        let t : pollOf (w .cons) (w .ring) (w .held) outs louts ≡ taken (refused n) (w .cons) (w .held) outs louts =
-        poll-stopped (w .cons) (w .ring) (w .held) outs louts (λ y. omega (arith, e, y))
-        ∙ ap (λ (m : ℕ). taken (refused m) (w .cons) (w .held) outs louts) e in
+        let t : pollOf (w .cons) (w .ring) (w .heldCounts) outs louts ≡ taken (refused n) (w .cons) (w .heldCounts) outs louts =
+        poll-stopped (w .cons) (w .ring) (w .heldCounts) outs louts (λ y. omega (arith, e, y))
+        ∙ ap (λ (m : ℕ). taken (refused m) (w .cons) (w .heldCounts) outs louts) e in
         good-by l q _ (said.looked (said.refused said.poll g n)) _ w
-        (either-refused (pollOf (w .cons) (w .ring) (w .held) outs louts .answer) n _ said.poll _ (ap (λ (o : Taken). o .answer) t) z
+        (either-refused (pollOf (w .cons) (w .ring) (w .heldCounts) outs louts .answer) n _ said.poll _ (ap (λ (o : Taken). o .answer) t) z
         ∙ ap (λ (y : Bool). said.looked (said.refused said.poll y n)) b)
         (ap (afterTaken w) t)
         good
 
     poll-short :
         (outs louts : List ℕ) → ltb (length outs) (w .cons .layout .size) || ltb (length louts) (w .cons .layout .size) ≡ true
-        → Good l q (saysPolled (w .cons .layout .size) outs louts (pollOf (w .cons) (w .ring) (w .held) outs louts)) (afterTaken w (pollOf (w .cons) (w .ring) (w .held) outs louts))
+        → Good l q (saysPolled (w .cons .layout .size) outs louts (pollOf (w .cons) (w .ring) (w .heldCounts) outs louts)) (afterTaken w (pollOf (w .cons) (w .ring) (w .heldCounts) outs louts))
     poll-short outs louts s =
         poll-no outs louts 8 false (omega arith)
-        (head-short (w .cons) (length (w .ring)) (headOf (w .cons) (w .ring)) (length (w .held)) (length outs) (length louts) (c-sound l laid-out ret w q k) (c-lent l laid-out ret w q k) s 0)
+        (head-short (w .cons) (length (w .ring)) (headOf (w .cons) (w .ring)) (length (w .heldCounts)) (length outs) (length louts) (c-sound l laid-out ret w q k) (c-lent l laid-out ret w q k) s 0)
         (short (length outs) (length louts) (w .cons .layout .size) s)
         (refl, (ret, like-look l laid-out ret w q k (said.refused said.poll false 8) (k .promise)))
       where
@@ -125,11 +125,11 @@ module _ (l : Layout) (laid-out : badLayout l ≡ false) where
 
       poll-blocked :
           q .waiting ≡ []
-          → Good l q (saysPolled (w .cons .layout .size) outs louts (pollOf (w .cons) (w .ring) (w .held) outs louts)) (afterTaken w (pollOf (w .cons) (w .ring) (w .held) outs louts))
+          → Good l q (saysPolled (w .cons .layout .size) outs louts (pollOf (w .cons) (w .ring) (w .heldCounts) outs louts)) (afterTaken w (pollOf (w .cons) (w .ring) (w .heldCounts) outs louts))
       poll-blocked e =
           let c = c-size l laid-out ret w q k in
           poll-no outs louts 3 true (omega arith)
-          (head-blocks (w .cons) (length (w .ring)) (headOf (w .cons) (w .ring)) (length (w .held)) (length outs) (length louts) (c-sound l laid-out ret w q k) (c-lent l laid-out ret w q k)
+          (head-blocks (w .cons) (length (w .ring)) (headOf (w .cons) (w .ring)) (length (w .heldCounts)) (length outs) (length louts) (c-sound l laid-out ret w q k) (c-lent l laid-out ret w q k)
           (omega (arith, c)) (omega (arith, c)) (none-available e) 0)
           long
           ((refl, e), (ret, like-look l laid-out ret w q k (said.refused said.poll true 3) (k .promise)))
@@ -153,7 +153,7 @@ module _ (l : Layout) (laid-out : badLayout l ≡ false) where
         low : x .id < size
         low = one-low size (x .id) (omega (arith, k .once (x .id), occ-w (x .id), hit-same (x .id) 1))
 
-        unheld : getD (w .held) (x .id) 0 ≡ 0
+        unheld : getD (w .heldCounts) (x .id) 0 ≡ 0
         unheld =
             let h = hit-same (x .id) 1 in
             let o : slots (x .id) (O q) ≡ 0 = slots-none (x .id) (O q) (omega (arith, k .once (x .id), occ-w (x .id), h, one-le size (x .id))) in
@@ -171,26 +171,26 @@ module _ (l : Layout) (laid-out : badLayout l ≡ false) where
               ids = w .ids;
               counts = w .counts;
               cons = pastOf (w .cons) (steps (w .cons .layout .size) n (w .cons .avail)) n;
-              held = set (w .held) (x .id) n;
+              heldCounts = set (w .heldCounts) (x .id) n;
               ring = w .ring;
             }
 
         is-taken :
-            pollOf (w .cons) (w .ring) (w .held) outs louts
-            ≡ taken (done (x .id ∷ n ∷ x .chain .readable ∷ [])) (pastOf (w .cons) (steps (w .cons .layout .size) n (w .cons .avail)) n) (set (w .held) (x .id) n)
+            pollOf (w .cons) (w .ring) (w .heldCounts) outs louts
+            ≡ taken (done (x .id ∷ n ∷ x .chain .readable ∷ [])) (pastOf (w .cons) (steps (w .cons .layout .size) n (w .cons .avail)) n) (set (w .heldCounts) (x .id) n)
             (sets outs 0 (x .chain .addrs)) (sets louts 0 (x .chain .lens))
         is-taken =
             let c = c-size l laid-out ret w q k in
             let s = stands x xs e in
-            poll-back (w .cons) (w .ring) (x .id) (x .chain .addrs) (x .chain .lens) (x .chain .readable) s (w .held) outs louts
-            (poll-accepted (w .cons) (w .ring) (x .id) (x .chain .addrs) (x .chain .lens) (x .chain .readable) s (w .held) outs louts
+            poll-back (w .cons) (w .ring) (x .id) (x .chain .addrs) (x .chain .lens) (x .chain .readable) s (w .heldCounts) outs louts
+            (poll-accepted (w .cons) (w .ring) (x .id) (x .chain .addrs) (x .chain .lens) (x .chain .readable) s (w .heldCounts) outs louts
             (c-sound l laid-out ret w q k) (c-lent l laid-out ret w q k) (omega (arith, c)) (omega (arith, c)) (omega (arith, c, low)) unheld (omega (arith, c, fits)))
 
         -- what is read off the outputs is the chain
         taken-first : (vs outs′ : List ℕ) → length vs ≤ length outs′ → take (length vs) (sets outs′ 0 vs) ≡ vs
         taken-first vs outs′ h = part-same vs outs′ 0 (omega arith)
 
-        says-x : saysPolled (w .cons .layout .size) outs louts (pollOf (w .cons) (w .ring) (w .held) outs louts) ≡ said.polled x
+        says-x : saysPolled (w .cons .layout .size) outs louts (pollOf (w .cons) (w .ring) (w .heldCounts) outs louts) ≡ said.polled x
         says-x =
             let s = stands x xs e in
             let c = c-size l laid-out ret w q k in
@@ -235,7 +235,7 @@ module _ (l : Layout) (laid-out : badLayout l ≡ false) where
               whole = k .whole;
               ids-whole = k .ids-whole;
               counts-whole = k .counts-whole;
-              held-whole = omega (arith, k .held-whole, length-set (w .held) (x .id) n);
+              held-whole = omega (arith, k .held-whole, length-set (w .heldCounts) (x .id) n);
               spelled = subst (Spells size (view size (l .table) (w .ring)) (k .fa)) (sym moved) (k .spelled);
               returned = k .returned;
               rounds = k .rounds;
@@ -246,7 +246,7 @@ module _ (l : Layout) (laid-out : badLayout l ≡ false) where
               r-pos = k .r-pos;
               once = λ y. omega (arith, k .once y, occ-w y, rest-occ y, occ-poll y (q .fresh) pl);
               p-nums = λ y h. omega (arith, k .p-nums y h, slots-w y, rest-slots y, slots-poll y (q .fresh) pl);
-              c-nums = λ y h. omega (arith, k .c-nums y h, slots-poll y (q .fresh) pl, at-set (w .held) (x .id) n y (omega (arith, low, k .held-whole)) unheld);
+              c-nums = λ y h. omega (arith, k .c-nums y h, slots-poll y (q .fresh) pl, at-set (w .heldCounts) (x .id) n y (omega (arith, low, k .held-whole)) unheld);
               heights = k .heights;
               out-pos = k .out-pos;
               out-occ = λ y. omega (arith, k .out-occ y, occ-w y, rest-occ y, occ-poll y (q .fresh) pl);
@@ -257,13 +257,13 @@ module _ (l : Layout) (laid-out : badLayout l ≡ false) where
             }
 
         poll-gives :
-            Good l q (saysPolled (w .cons .layout .size) outs louts (pollOf (w .cons) (w .ring) (w .held) outs louts)) (afterTaken w (pollOf (w .cons) (w .ring) (w .held) outs louts))
+            Good l q (saysPolled (w .cons .layout .size) outs louts (pollOf (w .cons) (w .ring) (w .heldCounts) outs louts)) (afterTaken w (pollOf (w .cons) (w .ring) (w .heldCounts) outs louts))
         poll-gives = good-by l q _ (said.polled x) _ polled-world says-x (ap (afterTaken w) is-taken) ((xs, e), (ret, poll-like))
 
     -- POLL: any outputs
     pub poll-good :
         (outs louts : List ℕ)
-        → Good l q (saysPolled (w .cons .layout .size) outs louts (pollOf (w .cons) (w .ring) (w .held) outs louts)) (afterTaken w (pollOf (w .cons) (w .ring) (w .held) outs louts))
+        → Good l q (saysPolled (w .cons .layout .size) outs louts (pollOf (w .cons) (w .ring) (w .heldCounts) outs louts)) (afterTaken w (pollOf (w .cons) (w .ring) (w .heldCounts) outs louts))
     poll-good outs louts =
         let c = c-size l laid-out ret w q k in
         split (ltb (length outs) (w .cons .layout .size) || ltb (length louts) (w .cons .layout .size))
@@ -276,7 +276,7 @@ module _ (l : Layout) (laid-out : badLayout l ≡ false) where
       where
         go :
             (outs louts : List ℕ) → size ≤ length outs → size ≤ length louts → (ws : List Item) → q .waiting ≡ ws
-            → Good l q (saysPolled (w .cons .layout .size) outs louts (pollOf (w .cons) (w .ring) (w .held) outs louts)) (afterTaken w (pollOf (w .cons) (w .ring) (w .held) outs louts))
+            → Good l q (saysPolled (w .cons .layout .size) outs louts (pollOf (w .cons) (w .ring) (w .heldCounts) outs louts)) (afterTaken w (pollOf (w .cons) (w .ring) (w .heldCounts) outs louts))
         go outs louts a b [] e = poll-blocked outs louts a b e
         go outs louts a b (x ∷ xs) e = poll-gives outs louts a b x xs e
 

@@ -133,7 +133,7 @@ module _ (l : Layout) (laid-out : badLayout l ≡ false) where
           ids = set (w .ids) (w .prod .height) id;
           counts = set (w .counts) id 0;
           cons = w .cons;
-          held = w .held;
+          heldCounts = w .heldCounts;
           ring = w .ring;
         }
 

@@ -80,13 +80,13 @@ module _ (l : Layout) (laid-out : badLayout l ≡ false) where
     -- ---- rollbacks
     module _ (cp : Checkpoint) (js : List ℕ) where
       abbrev rolls : Rolled
-      rolls = rollbackOf (w .cons) (w .held) cp js
+      rolls = rollbackOf (w .cons) (w .heldCounts) cp js
 
       abbrev on-ring : Bool
       on-ring = ltb (cp .avail .head) (w .cons .layout .size) && ltb (cp .used .head) (w .cons .layout .size)
 
       roll-no :
-          (m : ℕ) (g : Bool) → 0 < m → rolls ≡ rolled (refused m) (w .cons) (w .held) → on-ring ≡ g
+          (m : ℕ) (g : Bool) → 0 < m → rolls ≡ rolled (refused m) (w .cons) (w .heldCounts) → on-ring ≡ g
           → Good l q (said.looked (said.refused (said.rollback cp js) g m)) w → Good l q (saysRolled (w .cons .layout .size) cp js (rolls .answer)) (afterRolled w rolls)
       roll-no m g z t b good =
           good-by l q _ (said.looked (said.refused (said.rollback cp js) g m)) _ w
@@ -131,18 +131,18 @@ module _ (l : Layout) (laid-out : badLayout l ≡ false) where
             (subst (All FineItem) (ap items (sym parts) ∙ items-append up back) (all-left FineItem (items (q .fresh)) (q .waiting) (k .fine))))
 
         -- each named ID is the ring's and has a count
-        named-ok : (y : ℕ) → 0 < times y js → (y < size) × (0 < getD (w .held) y 0)
+        named-ok : (y : ℕ) → 0 < times y js → (y < size) × (0 < getD (w .heldCounts) y 0)
         named-ok y h =
             let o : 0 < occ y (ofItems (items back)) = omega (arith, h, back-times y) in
             let low : y < size = one-low size y (omega (arith, k .once y, occs y, o)) in
             (low, omega (arith, k .c-nums y low, slotss y, occ-slots y (ofItems (items back)) back-pos o))
 
-        none-bad-now : badIds size (w .held) js ≡ false
-        none-bad-now = none-bad size (w .held) js (λ y. omega (arith, back-times y, back-once y)) named-ok
+        none-bad-now : badIds size (w .heldCounts) js ≡ false
+        none-bad-now = none-bad size (w .heldCounts) js (λ y. omega (arith, back-times y, back-once y)) named-ok
 
         -- the sum is that of their chains' slots
         entries : (qs : List Poll) → All (λ (p : Poll). slots (p .item .id) (ofItems (items (q .old ++ up))) + slots (p .item .id) (ofItems (items back)) ≡ slotsOf (p .item .chain)) qs
-            → All (λ (p : Poll). 0 < occ (p .item .id) (ofItems (items back))) qs → All (λ (p : Poll). getD (w .held) (p .item .id) 0 ≡ slotsOf (p .item .chain)) qs
+            → All (λ (p : Poll). 0 < occ (p .item .id) (ofItems (items back))) qs → All (λ (p : Poll). getD (w .heldCounts) (p .item .id) 0 ≡ slotsOf (p .item .chain)) qs
         entries [] s t = tt
         entries (p ∷ qs) s t =
             let low : p .item .id < size = one-low size (p .item .id) (omega (arith, k .once (p .item .id), occs (p .item .id), t .0)) in (
@@ -157,10 +157,10 @@ module _ (l : Layout) (laid-out : badLayout l ≡ false) where
           stand-in ps (λ y. omega (arith, h y)),
         )
 
-        total : totalOf (w .held) js ≡ tot (ofItems (items back))
+        total : totalOf (w .heldCounts) js ≡ tot (ofItems (items back))
         total =
-            same-total (w .held) js (ids back) (u .names)
-            ∙ total-polls (w .held) back (entries back (own-slots (ofItems (items (q .old ++ up))) back back-once) (stand-in back (λ y. le-refl (occ y (ofItems (items back))))))
+            same-total (w .heldCounts) js (ids back) (u .names)
+            ∙ total-polls (w .heldCounts) back (entries back (own-slots (ofItems (items (q .old ++ up))) back back-once) (stand-in back (λ y. le-refl (occ y (ofItems (items back))))))
 
         check : (u .mark .value .used ≡ pos size (k .cu)) × ((u .mark .value .inflight ≡ tot (O q) + tot (ofItems (items (u .mark .stood)))) × (u .mark .value .avail ≡ pos size (k .cu + u .mark .value .inflight)))
         check = all-of (CheckOk size (q .comps) (k .cu) (tot (O q))) (u .mark) (q .marks) (u .taken) (k .checks) .1 (u .same-comps)
@@ -178,17 +178,17 @@ module _ (l : Layout) (laid-out : badLayout l ≡ false) where
             (lt-ltb (cp .avail .head) (w .cons .layout .size) (omega (arith, s, a))) (lt-ltb (cp .used .head) (w .cons .layout .size) (omega (arith, s, d)))
 
         -- where every poll that stood at the checkpoint stands, nothing is stale
-        stands-current : up ≡ u .mark .stood → staleOf (w .cons) cp (totalOf (w .held) js) ≡ false
+        stands-current : up ≡ u .mark .stood → staleOf (w .cons) cp (totalOf (w .heldCounts) js) ≡ false
         stands-current e =
             let c = check in
             let v = u .value in
-            let i : w .cons .inflight ≡ cp .inflight + totalOf (w .held) js =
+            let i : w .cons .inflight ≡ cp .inflight + totalOf (w .heldCounts) js =
             omega (arith, k .inflight, tots, total, c .1 .0, ap (λ (x : Checkpoint). x .inflight) v, ap (λ (ps : List Poll). tot (ofItems (items ps))) e) in
-            not-stale (w .cons) cp (totalOf (w .held) js)
+            not-stale (w .cons) cp (totalOf (w .heldCounts) js)
             (k .c-used ∙ sym (c .0) ∙ ap (λ (x : Checkpoint). x .used) v)
             i
-            (k .c-avail ∙ ap (pos size) (omega (arith, k .ca-is, k .fa-is, k .inflight, i)) ∙ pos-add size (k .cu + cp .inflight) (totalOf (w .held) js)
-            ∙ ap₂ (λ (m : ℕ) (x : RingCursor). steps m (totalOf (w .held) js) x) (sym (c-size l laid-out ret w q k))
+            (k .c-avail ∙ ap (pos size) (omega (arith, k .ca-is, k .fa-is, k .inflight, i)) ∙ pos-add size (k .cu + cp .inflight) (totalOf (w .heldCounts) js)
+            ∙ ap₂ (λ (m : ℕ) (x : RingCursor). steps m (totalOf (w .heldCounts) js) x) (sym (c-size l laid-out ret w q k))
             (sym (sym (ap (λ (x : Checkpoint). x .avail) v) ∙ c .1 .1 ∙ ap (λ (x : Checkpoint). pos size (k .cu + x .inflight)) v)))
 
         -- the world behind an accepted rollback
@@ -196,7 +196,7 @@ module _ (l : Layout) (laid-out : badLayout l ≡ false) where
         cons′ = record { layout = w .cons .layout; avail = cp .avail; used = w .cons .used; inflight = cp .inflight; shadow = w .cons .shadow }
 
         abbrev roll-world : World
-        roll-world = record { prod = w .prod; ids = w .ids; counts = w .counts; cons = cons′; held = clearedOf (w .held) js; ring = w .ring }
+        roll-world = record { prod = w .prod; ids = w .ids; counts = w .counts; cons = cons′; heldCounts = clearedOf (w .heldCounts) js; ring = w .ring }
 
         -- the queue behind it
         abbrev q′ : Queue Checkpoint
@@ -220,7 +220,7 @@ module _ (l : Layout) (laid-out : badLayout l ≡ false) where
               marks = q .marks;
             }
 
-        roll-like : Current (w .cons) cp (totalOf (w .held) js) → Like l ret roll-world q′
+        roll-like : Current (w .cons) cp (totalOf (w .heldCounts) js) → Like l ret roll-world q′
         roll-like cur =
             let c = check in
             let v = u .value in
@@ -249,7 +249,7 @@ module _ (l : Layout) (laid-out : badLayout l ≡ false) where
               whole = k .whole;
               ids-whole = k .ids-whole;
               counts-whole = k .counts-whole;
-              held-whole = omega (arith, k .held-whole, cleared-length (w .held) js);
+              held-whole = omega (arith, k .held-whole, cleared-length (w .heldCounts) js);
               spelled = subst (Spells size (view size (l .table) (w .ring)) (k .fa)) (sym again) (k .spelled);
               returned = k .returned;
               rounds = k .rounds;
@@ -270,9 +270,9 @@ module _ (l : Layout) (laid-out : badLayout l ≡ false) where
               checks = k .checks;
             }
           where
-            left-at : (y : ℕ) → y < size → getD (clearedOf (w .held) js) y 0 ≡ slots y (O q) + slots y (ofItems (items up))
+            left-at : (y : ℕ) → y < size → getD (clearedOf (w .heldCounts) js) y 0 ≡ slots y (O q) + slots y (ofItems (items up))
             left-at y h =
-                let c = cleared-at (w .held) js y (omega (arith, h, k .held-whole)) in
+                let c = cleared-at (w .heldCounts) js y (omega (arith, h, k .held-whole)) in
                 by-lt 0 (times y js)
                 (λ z.
                 let o : 0 < occ y (ofItems (items back)) = omega (arith, z, back-times y) in
@@ -294,35 +294,35 @@ module _ (l : Layout) (laid-out : badLayout l ≡ false) where
           split on-ring
           (λ t.
           let a = both-low t in
-          let z = handed-goes (w .cons) cp (length (w .held)) r (a .0) (a .1) (omega (arith, s, k .held-whole)) 0 in
-          split (badIds (w .cons .layout .size) (w .held) js || staleOf (w .cons) cp (totalOf (w .held) js))
-          (λ bad. roll-no 9 true (omega arith) (rollback-refused (w .cons) (w .held) cp js z bad) t (
+          let z = handed-goes (w .cons) cp (length (w .heldCounts)) r (a .0) (a .1) (omega (arith, s, k .held-whole)) 0 in
+          split (badIds (w .cons .layout .size) (w .heldCounts) js || staleOf (w .cons) cp (totalOf (w .heldCounts) js))
+          (λ bad. roll-no 9 true (omega arith) (rollback-refused (w .cons) (w .heldCounts) cp js z bad) t (
             (
               refl,
               λ ua.
                   let u = ua .undo in
-                  true-false (sym bad ∙ simp (ap (λ (m : ℕ). badIds m (w .held) js) s ∙ none-bad-now u, stands-current u (ua .stand))),
+                  true-false (sym bad ∙ simp (ap (λ (m : ℕ). badIds m (w .heldCounts) js) s ∙ none-bad-now u, stands-current u (ua .stand))),
             ),
             (ret, like-look l laid-out ret w q k (said.refused (said.rollback cp js) true 9) (k .promise)),
           ))
           (λ fine.
           let behind : RingConsumer = record { layout = w .cons .layout; avail = cp .avail; used = w .cons .used; inflight = cp .inflight; shadow = w .cons .shadow } in
-          let e : rolls ≡ rolled (done []) behind (clearedOf (w .held) js) = rollback-done (w .cons) (w .held) cp js z fine ∙ ap (λ (x : RingConsumer). rolled (done []) x (clearedOf (w .held) js)) (back-is (w .cons) cp) in
+          let e : rolls ≡ rolled (done []) behind (clearedOf (w .heldCounts) js) = rollback-done (w .cons) (w .heldCounts) cp js z fine ∙ ap (λ (x : RingConsumer). rolled (done []) x (clearedOf (w .heldCounts) js)) (back-is (w .cons) cp) in
           let says : saysRolled (w .cons .layout .size) cp js (rolls .answer) ≡ said.rolled cp js = ap (λ (o : Rolled). saysRolled (w .cons .layout .size) cp js (o .answer)) e in
           let u = grant (sym says) in
           good-by l q _ (said.rolled cp js) _ (roll-world u) says (ap (afterRolled w) e)
-          (u, (ret, subst (Like l ret (roll-world u)) (sym (queue-is u)) (roll-like u (current (w .cons) cp (totalOf (w .held) js) (or-right fine)))))))
+          (u, (ret, subst (Like l ret (roll-world u)) (sym (queue-is u)) (roll-like u (current (w .cons) cp (totalOf (w .heldCounts) js) (or-right fine)))))))
           (λ f. roll-no 7 false (omega arith)
-          (rollback-stopped (w .cons) (w .held) cp js (λ y. omega (arith, handed-bad (w .cons) cp (length (w .held)) (off f) 0, y))
-          ∙ ap (λ (m : ℕ). rolled (refused m) (w .cons) (w .held)) (handed-bad (w .cons) cp (length (w .held)) (off f) 0))
+          (rollback-stopped (w .cons) (w .heldCounts) cp js (λ y. omega (arith, handed-bad (w .cons) cp (length (w .heldCounts)) (off f) 0, y))
+          ∙ ap (λ (m : ℕ). rolled (refused m) (w .cons) (w .heldCounts)) (handed-bad (w .cons) cp (length (w .heldCounts)) (off f) 0))
           f
           ((refl, λ ua. true-false (sym (taken-on-ring (ua .undo)) ∙ f)), (ret, like-look l laid-out ret w q k (said.refused (said.rollback cp js) false 7) (k .promise))))
         where
           true-false : true ≡ false → ⊥
           true-false e = let y : _≡_ {A = ℕ} 0 1 = cc in omega arith
 
-          or-right : badIds (w .cons .layout .size) (w .held) js || staleOf (w .cons) cp (totalOf (w .held) js) ≡ false → staleOf (w .cons) cp (totalOf (w .held) js) ≡ false
-          or-right e = neither (badIds (w .cons .layout .size) (w .held) js) (staleOf (w .cons) cp (totalOf (w .held) js)) e .1
+          or-right : badIds (w .cons .layout .size) (w .heldCounts) js || staleOf (w .cons) cp (totalOf (w .heldCounts) js) ≡ false → staleOf (w .cons) cp (totalOf (w .heldCounts) js) ≡ false
+          or-right e = neither (badIds (w .cons .layout .size) (w .heldCounts) js) (staleOf (w .cons) cp (totalOf (w .heldCounts) js)) e .1
 
           both-low : on-ring ≡ true → (cp .avail .head < w .cons .layout .size) × (cp .used .head < w .cons .layout .size)
           both-low t =

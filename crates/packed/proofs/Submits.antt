@@ -26,7 +26,7 @@ use Rattle.producer.specs.Submit.{topOf, submitRefusal, elementOf, Written, put
 use Rattle.producer.proofs.Submit.{submit-refused, submit-done}
 use Rattle.producer.proofs.Frame.{chain-past}
 use Rattle.producer.proofs.Touch.{submit-length, submit-keep}
-use Rattle.producer.proofs.Goes.{submit-bad-chain, submit-empty, submit-blocks, submit-goes, submitted-is, taken-is, tell-number, tell-value, tell-end, tell-ring, tell-ids, tell-counts}
+use Rattle.producer.proofs.Goes.{submit-bad-chain, submit-empty, submit-blocks, submit-goes, submitted-is, taken-is, tell-number, tell-value, tell-leaves}
 use Rattle.consumer.specs.declared.Checkpoint.{Checkpoint}
 use Rattle.back.proofs.Back.{Stands, written}
 use Rattle.queue.specs.History.{Chain, Item, items}
@@ -114,7 +114,7 @@ module _ (l : Layout) (laid-out : badLayout l ≡ false) where
           ∙ taken-is (w .prod) (steps (w .prod .layout .size) n (w .prod .avail)) n
 
       abbrev submit-world : World
-      submit-world = record { prod = prod′; ids = w .ids; counts = set (w .counts) top n; cons = w .cons; held = w .held; ring = ring′ }
+      submit-world = record { prod = prod′; ids = w .ids; counts = set (w .counts) top n; cons = w .cons; heldCounts = w .heldCounts; ring = ring′ }
 
       world-is : afterMade w (submitsOf w c) ≡ submit-world
       world-is =
@@ -124,7 +124,7 @@ module _ (l : Layout) (laid-out : badLayout l ≡ false) where
             ids = is-submitted i .ids;
             counts = is-submitted i .counts;
             cons = w .cons;
-            held = w .held;
+            heldCounts = w .heldCounts;
             ring = ring′;
           }
 
@@ -261,5 +261,5 @@ module _ (l : Layout) (laid-out : badLayout l ≡ false) where
         good-by l q _ (saysSubmitted c (o .answer)) _ (afterMade w o)
         (ap₂ (λ (m : ℕ) (v : ℕ). cond (eqb m 0) (said.submitted (record { id = v; chain = c })) (said.looked (said.refused (said.submit c) lent-good m)))
         (tell-number old-c o) (tell-value old-c o))
-        (λ i. record { prod = tell-end old-c o i; ids = tell-ids old-c o i; counts = tell-counts old-c o i; cons = w .cons; held = w .held; ring = tell-ring old-c o i })
+        (ap (afterMade w) (tell-leaves old-c o))
         (submit-good typed)

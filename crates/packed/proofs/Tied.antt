@@ -1,7 +1,7 @@
 -- The machine's step is the function's contract: whatever result and exit the generated contract of a call allows, the machine says what is
 -- read off that result and leaves that exit. So a contract that changes breaks this file, or goes through it into demand 3.
 -- Assumes nothing.
-use mathlib.Core.Path.{_≡_, refl, sym, ap}
+use mathlib.Core.Path.{_≡_, refl, sym, ap, _∙_}
 use mathlib.Core.Bool.{true}
 use mathlib.Core.List.{List}
 use Prim.Native.Nat.{ℕ}
@@ -15,19 +15,30 @@ use Rattle.producer.specs.Outcome as made
 use Rattle.producer.specs.Submit as submits
 use Rattle.producer.specs.Tell as tells
 use Rattle.producer.specs.Poll as reclaims
-use Rattle.producer.specs.Notices as usedNotices
 use Rattle.consumer.specs.declared.RingConsumer.{RingConsumer}
 use Rattle.consumer.specs.declared.Checkpoint.{Checkpoint}
 use Rattle.consumer.specs.Outcome as takenOutcome
 use Rattle.consumer.specs.Poll as polls
 use Rattle.consumer.specs.Complete as completes
 use Rattle.consumer.specs.Rollback as rollbacks
-use Rattle.consumer.specs.Notices as availNotices
 use Rattle.queue.specs.History.{Event}
 use Rattle.packed.specs.Calls.{Own, oneOf}
 use Rattle.packed.specs.Calls.{producerNumFree, producerNumInflight, producerIsFull, producerLen, producerDescTable, producerAvailCursor, producerUsedCursor, consumerNumFree, consumerNumInflight, consumerIsFull, consumerLen, consumerAvailCursor, consumerUsedCursor}
 use Rattle.packed.specs.Calls.{submitAvailable, submitAvailableWithNotify, submitOne, submitOneWithNotify, pollUsed, nextId, producerAsked, shouldNotifySince, turnUsed, enableUsedDesc, enableUsedForNext, pollAvailable, submitUsed, submitUsedWithNotify, peekAvailable, pollCheckpoint, rollbackPolls, consumerAsked, turnAvail, enableAvailDesc, enableAvailForNext}
 use Rattle.packed.specs.Machine.{World, saysSubmitted, saysReclaimed, saysNext, saysQuiet, saysPolled, saysCompleted, saysPeeked, saysMarked, saysRolled, afterMade, afterUsedTurn, afterTaken, afterCompleted, afterRolled, afterAvailTurn, ownSays, ownLeaves}
+use Rattle.packed.specs.Opening.{Opening, producerOpens, consumerOpens, openedWorld}
+use Rattle.packed.specs.Reset.{producerReset, consumerReset, withProducerReset, withConsumerReset}
+use Rattle.packed.proofs.First.{made-answer, taken-answer}
+use Rattle.producer.specs.Fresh as madeFresh
+use Rattle.producer.specs.declared.Opened.the-variants as madeOpened
+use Rattle.producer.proofs.Same as madeSame
+use Rattle.producer.proofs.RingProducer.new.Reads as made-new
+use Rattle.producer.proofs.RingProducer.reset.Reads as made-reset
+use Rattle.consumer.specs.Fresh as takenFresh
+use Rattle.consumer.specs.declared.Opened.the-variants as takenOpened
+use Rattle.consumer.proofs.Same as takenSame
+use Rattle.consumer.proofs.RingConsumer.new.Reads as taken-new
+use Rattle.consumer.proofs.RingConsumer.reset.Reads as taken-reset
 use Rattle.producer.proofs.RingProducer.submit_one.Reads as made-submit-one
 use Rattle.producer.proofs.RingProducer.submit_available.Reads as made-submit-available
 use Rattle.producer.proofs.RingProducer.submit_available_with_notify.Reads as made-submit-available-with-notify
@@ -73,17 +84,17 @@ Step w c e v = (ownSays w c ≡ e) × (ownLeaves w c ≡ v)
 
 -- a world in which the producer was given these, and one in which the consumer was
 abbrev withProducer : World → RingProducer → List ℕ → List ℕ → List ℕ → World
-withProducer w p r i k = record { prod = p; ids = i; counts = k; cons = w .cons; held = w .held; ring = r }
+withProducer w p r i k = record { prod = p; ids = i; counts = k; cons = w .cons; heldCounts = w .heldCounts; ring = r }
 
 abbrev withConsumer : World → RingConsumer → List ℕ → List ℕ → World
-withConsumer w p r k = record { prod = w .prod; ids = w .ids; counts = w .counts; cons = p; held = k; ring = r }
+withConsumer w p r k = record { prod = w .prod; ids = w .ids; counts = w .counts; cons = p; heldCounts = k; ring = r }
 
 module _ (w : World) where
-  pub made-submit-one-tied : Ties made-submit-one.Post (λ a r s. Step (withProducer w (a .0) (now (a .1 .0)) (now (a .1 .1 .0)) (now (a .1 .1 .1 .0))) (submitOne (a .1 .1 .1 .1 .0) (a .1 .1 .1 .1 .1 .0) (a .1 .1 .1 .1 .1 .1 .0)) (saysSubmitted (oneOf (a .1 .1 .1 .1 .0) (a .1 .1 .1 .1 .1 .0) (a .1 .1 .1 .1 .1 .1 .0)) (submits.answerOf r)) (withProducer w (submits.recordOf r) (now (s .1 .0)) (now (a .1 .1 .0)) (now (s .1 .1 .1 .0))))
+  pub made-submit-one-tied : Ties made-submit-one.Post (λ a r s. Step (withProducer w (a .0) (now (a .1 .0)) (now (a .1 .1 .0)) (now (a .1 .1 .1 .0))) (submitOne (a .1 .1 .1 .1 .0) (a .1 .1 .1 .1 .1 .0) (a .1 .1 .1 .1 .1 .1 .0)) (saysSubmitted (oneOf (a .1 .1 .1 .1 .0) (a .1 .1 .1 .1 .1 .0) (a .1 .1 .1 .1 .1 .1 .0)) (submits.submittedAnswer r)) (withProducer w (submits.submittedRecord r) (now (s .1 .0)) (now (a .1 .1 .0)) (now (s .1 .1 .1 .0))))
   unfolding ownSays ownLeaves
   made-submit-one-tied κ a r s p = (ap (λ (o : made.Outcome). saysSubmitted (oneOf (a .1 .1 .1 .1 .0) (a .1 .1 .1 .1 .1 .0) (a .1 .1 .1 .1 .1 .1 .0)) (o .answer)) (sym p), ap (afterMade (withProducer w (a .0) (now (a .1 .0)) (now (a .1 .1 .0)) (now (a .1 .1 .1 .0)))) (sym p))
 
-  pub made-submit-available-tied : Ties made-submit-available.Post (λ a r s. Step (withProducer w (a .0) (now (a .1 .0)) (now (a .1 .1 .0)) (now (a .1 .1 .1 .0))) (submitAvailable (record { addrs = (now (a .1 .1 .1 .1 .0)); lens = (now (a .1 .1 .1 .1 .1 .0)); readable = (a .1 .1 .1 .1 .1 .1 .0) })) (saysSubmitted (record { addrs = (now (a .1 .1 .1 .1 .0)); lens = (now (a .1 .1 .1 .1 .1 .0)); readable = (a .1 .1 .1 .1 .1 .1 .0) }) (submits.answerOf r)) (withProducer w (submits.recordOf r) (now (s .1 .0)) (now (a .1 .1 .0)) (now (s .1 .1 .1 .0))))
+  pub made-submit-available-tied : Ties made-submit-available.Post (λ a r s. Step (withProducer w (a .0) (now (a .1 .0)) (now (a .1 .1 .0)) (now (a .1 .1 .1 .0))) (submitAvailable (record { addrs = (now (a .1 .1 .1 .1 .0)); lens = (now (a .1 .1 .1 .1 .1 .0)); readable = (a .1 .1 .1 .1 .1 .1 .0) })) (saysSubmitted (record { addrs = (now (a .1 .1 .1 .1 .0)); lens = (now (a .1 .1 .1 .1 .1 .0)); readable = (a .1 .1 .1 .1 .1 .1 .0) }) (submits.submittedAnswer r)) (withProducer w (submits.submittedRecord r) (now (s .1 .0)) (now (a .1 .1 .0)) (now (s .1 .1 .1 .0))))
   unfolding ownSays ownLeaves
   made-submit-available-tied κ a r s p = (ap (λ (o : made.Outcome). saysSubmitted (record { addrs = (now (a .1 .1 .1 .1 .0)); lens = (now (a .1 .1 .1 .1 .1 .0)); readable = (a .1 .1 .1 .1 .1 .1 .0) }) (o .answer)) (sym p), ap (afterMade (withProducer w (a .0) (now (a .1 .0)) (now (a .1 .1 .0)) (now (a .1 .1 .1 .0)))) (sym p))
 
@@ -95,7 +106,7 @@ module _ (w : World) where
   unfolding ownSays ownLeaves
   made-submit-one-with-notify-tied κ a r s p = (ap (λ (o : made.Outcome). saysSubmitted (oneOf (a .1 .1 .1 .1 .0) (a .1 .1 .1 .1 .1 .0) (a .1 .1 .1 .1 .1 .1 .0)) (o .answer)) (sym p), ap (afterMade (withProducer w (a .0) (now (a .1 .0)) (now (a .1 .1 .0)) (now (a .1 .1 .1 .0)))) (sym p))
 
-  pub made-poll-used-tied : Ties made-poll-used.Post (λ a r s. Step (withProducer w (a .0) (now (a .1 .0)) (now (a .1 .1 .0)) (now (a .1 .1 .1 .0))) pollUsed (saysReclaimed (reclaims.usedAnswer r)) (withProducer w (reclaims.usedRecord r) (now (a .1 .0)) (now (s .1 .1 .0)) (now (s .1 .1 .1 .0))))
+  pub made-poll-used-tied : Ties made-poll-used.Post (λ a r s. Step (withProducer w (a .0) (now (a .1 .0)) (now (a .1 .1 .0)) (now (a .1 .1 .1 .0))) pollUsed (saysReclaimed (reclaims.polledAnswer r)) (withProducer w (reclaims.polledRecord r) (now (a .1 .0)) (now (s .1 .1 .0)) (now (s .1 .1 .1 .0))))
   unfolding ownSays ownLeaves
   made-poll-used-tied κ a r s p = (ap (λ (o : made.Outcome). saysReclaimed (o .answer)) (sym p), ap (afterMade (withProducer w (a .0) (now (a .1 .0)) (now (a .1 .1 .0)) (now (a .1 .1 .1 .0)))) (sym p))
 
@@ -135,19 +146,19 @@ module _ (w : World) where
   unfolding ownSays ownLeaves
   made-should-notify-since-tied κ a r s p = (ap (saysQuiet (ltb ((a .1 .1 .0) .head) (a .0 .layout .size))) (sym p), refl)
 
-  pub made-disable-used-notifications-tied : Ties made-disable-used-notifications.Post (λ a r s. Step (withProducer w (a .0) (now (a .1 .0)) (w .ids) (w .counts)) (turnUsed DISABLE) (saysQuiet true (usedNotices.turnAnswer r)) (withProducer w (usedNotices.turnRecord r) (now (s .1 .0)) (w .ids) (w .counts)))
+  pub made-disable-used-notifications-tied : Ties made-disable-used-notifications.Post (λ a r s. Step (withProducer w (a .0) (now (a .1 .0)) (w .ids) (w .counts)) (turnUsed DISABLE) (saysQuiet true (made.answerOf r)) (withProducer w (made.recordOf r) (now (s .1 .0)) (w .ids) (w .counts)))
   unfolding ownSays ownLeaves
   made-disable-used-notifications-tied κ a r s p = (ap (λ (o : made.Changed). saysQuiet true (o .answer)) (sym p), ap (afterUsedTurn (withProducer w (a .0) (now (a .1 .0)) (w .ids) (w .counts))) (sym p))
 
-  pub made-enable-used-notifications-tied : Ties made-enable-used-notifications.Post (λ a r s. Step (withProducer w (a .0) (now (a .1 .0)) (w .ids) (w .counts)) (turnUsed ENABLE) (saysQuiet true (usedNotices.turnAnswer r)) (withProducer w (usedNotices.turnRecord r) (now (s .1 .0)) (w .ids) (w .counts)))
+  pub made-enable-used-notifications-tied : Ties made-enable-used-notifications.Post (λ a r s. Step (withProducer w (a .0) (now (a .1 .0)) (w .ids) (w .counts)) (turnUsed ENABLE) (saysQuiet true (made.answerOf r)) (withProducer w (made.recordOf r) (now (s .1 .0)) (w .ids) (w .counts)))
   unfolding ownSays ownLeaves
   made-enable-used-notifications-tied κ a r s p = (ap (λ (o : made.Changed). saysQuiet true (o .answer)) (sym p), ap (afterUsedTurn (withProducer w (a .0) (now (a .1 .0)) (w .ids) (w .counts))) (sym p))
 
-  pub made-enable-used-notifications-desc-tied : Ties made-enable-used-notifications-desc.Post (λ a r s. Step (withProducer w (a .0) (now (a .1 .0)) (w .ids) (w .counts)) (enableUsedDesc (a .1 .1 .0) (a .1 .1 .1 .0)) (saysQuiet true (usedNotices.turnAnswer r)) (withProducer w (usedNotices.turnRecord r) (now (s .1 .0)) (w .ids) (w .counts)))
+  pub made-enable-used-notifications-desc-tied : Ties made-enable-used-notifications-desc.Post (λ a r s. Step (withProducer w (a .0) (now (a .1 .0)) (w .ids) (w .counts)) (enableUsedDesc (a .1 .1 .0) (a .1 .1 .1 .0)) (saysQuiet true (made.answerOf r)) (withProducer w (made.recordOf r) (now (s .1 .0)) (w .ids) (w .counts)))
   unfolding ownSays ownLeaves
   made-enable-used-notifications-desc-tied κ a r s p = (ap (λ (o : made.Changed). saysQuiet true (o .answer)) (sym p), ap (afterUsedTurn (withProducer w (a .0) (now (a .1 .0)) (w .ids) (w .counts))) (sym p))
 
-  pub made-enable-used-notifications-for-next-tied : Ties made-enable-used-notifications-for-next.Post (λ a r s. Step (withProducer w (a .0) (now (a .1 .0)) (w .ids) (w .counts)) enableUsedForNext (saysQuiet true (usedNotices.turnAnswer r)) (withProducer w (usedNotices.turnRecord r) (now (s .1 .0)) (w .ids) (w .counts)))
+  pub made-enable-used-notifications-for-next-tied : Ties made-enable-used-notifications-for-next.Post (λ a r s. Step (withProducer w (a .0) (now (a .1 .0)) (w .ids) (w .counts)) enableUsedForNext (saysQuiet true (made.answerOf r)) (withProducer w (made.recordOf r) (now (s .1 .0)) (w .ids) (w .counts)))
   unfolding ownSays ownLeaves
   made-enable-used-notifications-for-next-tied κ a r s p = (ap (λ (o : made.Changed). saysQuiet true (o .answer)) (sym p), ap (afterUsedTurn (withProducer w (a .0) (now (a .1 .0)) (w .ids) (w .counts))) (sym p))
 
@@ -163,11 +174,11 @@ module _ (w : World) where
   unfolding ownSays ownLeaves
   taken-submit-used-with-notify-tied κ a r s p = (ap (λ (o : takenOutcome.Outcome). saysCompleted (a .1 .1 .1 .0) (a .1 .1 .1 .1 .0) (o .answer)) (sym p), ap (afterCompleted (withConsumer w (a .0) (now (a .1 .0)) (now (a .1 .1 .0)))) (sym p))
 
-  pub taken-peek-available-tied : Ties taken-peek-available.Post (λ a r s. Step (withConsumer w (a .0) (now (a .1 .0)) (w .held)) peekAvailable (saysPeeked (boolAnswer r)) (withConsumer w (a .0) (now (a .1 .0)) (w .held)))
+  pub taken-peek-available-tied : Ties taken-peek-available.Post (λ a r s. Step (withConsumer w (a .0) (now (a .1 .0)) (w .heldCounts)) peekAvailable (saysPeeked (boolAnswer r)) (withConsumer w (a .0) (now (a .1 .0)) (w .heldCounts)))
   unfolding ownSays ownLeaves
   taken-peek-available-tied κ a r s p = (ap saysPeeked (sym p), refl)
 
-  pub taken-poll-checkpoint-tied : Ties taken-poll-checkpoint.Post (λ a r s. Step (withConsumer w (a .0) (w .ring) (w .held)) pollCheckpoint (saysMarked (rollbacks.checkpointAnswer r)) (withConsumer w (a .0) (w .ring) (w .held)))
+  pub taken-poll-checkpoint-tied : Ties taken-poll-checkpoint.Post (λ a r s. Step (withConsumer w (a .0) (w .ring) (w .heldCounts)) pollCheckpoint (saysMarked (rollbacks.checkpointAnswer r)) (withConsumer w (a .0) (w .ring) (w .heldCounts)))
   unfolding ownSays ownLeaves
   taken-poll-checkpoint-tied κ a r s p = (ap saysMarked (sym p), refl)
 
@@ -175,42 +186,68 @@ module _ (w : World) where
   unfolding ownSays ownLeaves
   taken-rollback-polls-tied κ a r s p = (ap (λ (o : takenOutcome.Rolled). saysRolled (a .0 .layout .size) (a .1 .1 .0) (now (a .1 .1 .1 .0)) (o .answer)) (sym p), ap (afterRolled (withConsumer w (a .0) (w .ring) (now (a .1 .0)))) (sym p))
 
-  pub taken-num-free-tied : Ties taken-num-free.Post (λ a r s. Step (withConsumer w (a .0) (w .ring) (w .held)) (consumerAsked consumerNumFree) (saysQuiet true (countAnswer r)) (withConsumer w (a .0) (w .ring) (w .held)))
+  pub taken-num-free-tied : Ties taken-num-free.Post (λ a r s. Step (withConsumer w (a .0) (w .ring) (w .heldCounts)) (consumerAsked consumerNumFree) (saysQuiet true (countAnswer r)) (withConsumer w (a .0) (w .ring) (w .heldCounts)))
   unfolding ownSays ownLeaves
   taken-num-free-tied κ a r s p = (ap (saysQuiet true) (sym p), refl)
 
-  pub taken-num-inflight-tied : Ties taken-num-inflight.Post (λ a r s. Step (withConsumer w (a .0) (w .ring) (w .held)) (consumerAsked consumerNumInflight) (saysQuiet true (countAnswer r)) (withConsumer w (a .0) (w .ring) (w .held)))
+  pub taken-num-inflight-tied : Ties taken-num-inflight.Post (λ a r s. Step (withConsumer w (a .0) (w .ring) (w .heldCounts)) (consumerAsked consumerNumInflight) (saysQuiet true (countAnswer r)) (withConsumer w (a .0) (w .ring) (w .heldCounts)))
   unfolding ownSays ownLeaves
   taken-num-inflight-tied κ a r s p = (ap (saysQuiet true) (sym p), refl)
 
-  pub taken-is-full-tied : Ties taken-is-full.Post (λ a r s. Step (withConsumer w (a .0) (w .ring) (w .held)) (consumerAsked consumerIsFull) (saysQuiet true (boolAnswer r)) (withConsumer w (a .0) (w .ring) (w .held)))
+  pub taken-is-full-tied : Ties taken-is-full.Post (λ a r s. Step (withConsumer w (a .0) (w .ring) (w .heldCounts)) (consumerAsked consumerIsFull) (saysQuiet true (boolAnswer r)) (withConsumer w (a .0) (w .ring) (w .heldCounts)))
   unfolding ownSays ownLeaves
   taken-is-full-tied κ a r s p = (ap (saysQuiet true) (sym p), refl)
 
-  pub taken-len-tied : Ties taken-len.Post (λ a r s. Step (withConsumer w (a .0) (w .ring) (w .held)) (consumerAsked consumerLen) (saysQuiet true (countAnswer r)) (withConsumer w (a .0) (w .ring) (w .held)))
+  pub taken-len-tied : Ties taken-len.Post (λ a r s. Step (withConsumer w (a .0) (w .ring) (w .heldCounts)) (consumerAsked consumerLen) (saysQuiet true (countAnswer r)) (withConsumer w (a .0) (w .ring) (w .heldCounts)))
   unfolding ownSays ownLeaves
   taken-len-tied κ a r s p = (ap (saysQuiet true) (sym p), refl)
 
-  pub taken-avail-cursor-tied : Ties taken-avail-cursor.Post (λ a r s. Step (withConsumer w (a .0) (w .ring) (w .held)) (consumerAsked consumerAvailCursor) (saysQuiet true (cursorAnswer r)) (withConsumer w (a .0) (w .ring) (w .held)))
+  pub taken-avail-cursor-tied : Ties taken-avail-cursor.Post (λ a r s. Step (withConsumer w (a .0) (w .ring) (w .heldCounts)) (consumerAsked consumerAvailCursor) (saysQuiet true (cursorAnswer r)) (withConsumer w (a .0) (w .ring) (w .heldCounts)))
   unfolding ownSays ownLeaves
   taken-avail-cursor-tied κ a r s p = (ap (saysQuiet true) (sym p), refl)
 
-  pub taken-used-cursor-tied : Ties taken-used-cursor.Post (λ a r s. Step (withConsumer w (a .0) (w .ring) (w .held)) (consumerAsked consumerUsedCursor) (saysQuiet true (cursorAnswer r)) (withConsumer w (a .0) (w .ring) (w .held)))
+  pub taken-used-cursor-tied : Ties taken-used-cursor.Post (λ a r s. Step (withConsumer w (a .0) (w .ring) (w .heldCounts)) (consumerAsked consumerUsedCursor) (saysQuiet true (cursorAnswer r)) (withConsumer w (a .0) (w .ring) (w .heldCounts)))
   unfolding ownSays ownLeaves
   taken-used-cursor-tied κ a r s p = (ap (saysQuiet true) (sym p), refl)
 
-  pub taken-disable-avail-notifications-tied : Ties taken-disable-avail-notifications.Post (λ a r s. Step (withConsumer w (a .0) (now (a .1 .0)) (w .held)) (turnAvail DISABLE) (saysQuiet true (takenOutcome.answerOf r)) (withConsumer w (takenOutcome.recordOf r) (now (s .1 .0)) (w .held)))
+  pub taken-disable-avail-notifications-tied : Ties taken-disable-avail-notifications.Post (λ a r s. Step (withConsumer w (a .0) (now (a .1 .0)) (w .heldCounts)) (turnAvail DISABLE) (saysQuiet true (takenOutcome.answerOf r)) (withConsumer w (takenOutcome.recordOf r) (now (s .1 .0)) (w .heldCounts)))
   unfolding ownSays ownLeaves
-  taken-disable-avail-notifications-tied κ a r s p = (ap (λ (o : takenOutcome.Changed). saysQuiet true (o .answer)) (sym p), ap (afterAvailTurn (withConsumer w (a .0) (now (a .1 .0)) (w .held))) (sym p))
+  taken-disable-avail-notifications-tied κ a r s p = (ap (λ (o : takenOutcome.Changed). saysQuiet true (o .answer)) (sym p), ap (afterAvailTurn (withConsumer w (a .0) (now (a .1 .0)) (w .heldCounts))) (sym p))
 
-  pub taken-enable-avail-notifications-tied : Ties taken-enable-avail-notifications.Post (λ a r s. Step (withConsumer w (a .0) (now (a .1 .0)) (w .held)) (turnAvail ENABLE) (saysQuiet true (takenOutcome.answerOf r)) (withConsumer w (takenOutcome.recordOf r) (now (s .1 .0)) (w .held)))
+  pub taken-enable-avail-notifications-tied : Ties taken-enable-avail-notifications.Post (λ a r s. Step (withConsumer w (a .0) (now (a .1 .0)) (w .heldCounts)) (turnAvail ENABLE) (saysQuiet true (takenOutcome.answerOf r)) (withConsumer w (takenOutcome.recordOf r) (now (s .1 .0)) (w .heldCounts)))
   unfolding ownSays ownLeaves
-  taken-enable-avail-notifications-tied κ a r s p = (ap (λ (o : takenOutcome.Changed). saysQuiet true (o .answer)) (sym p), ap (afterAvailTurn (withConsumer w (a .0) (now (a .1 .0)) (w .held))) (sym p))
+  taken-enable-avail-notifications-tied κ a r s p = (ap (λ (o : takenOutcome.Changed). saysQuiet true (o .answer)) (sym p), ap (afterAvailTurn (withConsumer w (a .0) (now (a .1 .0)) (w .heldCounts))) (sym p))
 
-  pub taken-enable-avail-notifications-desc-tied : Ties taken-enable-avail-notifications-desc.Post (λ a r s. Step (withConsumer w (a .0) (now (a .1 .0)) (w .held)) (enableAvailDesc (a .1 .1 .0) (a .1 .1 .1 .0)) (saysQuiet true (takenOutcome.answerOf r)) (withConsumer w (takenOutcome.recordOf r) (now (s .1 .0)) (w .held)))
+  pub taken-enable-avail-notifications-desc-tied : Ties taken-enable-avail-notifications-desc.Post (λ a r s. Step (withConsumer w (a .0) (now (a .1 .0)) (w .heldCounts)) (enableAvailDesc (a .1 .1 .0) (a .1 .1 .1 .0)) (saysQuiet true (takenOutcome.answerOf r)) (withConsumer w (takenOutcome.recordOf r) (now (s .1 .0)) (w .heldCounts)))
   unfolding ownSays ownLeaves
-  taken-enable-avail-notifications-desc-tied κ a r s p = (ap (λ (o : takenOutcome.Changed). saysQuiet true (o .answer)) (sym p), ap (afterAvailTurn (withConsumer w (a .0) (now (a .1 .0)) (w .held))) (sym p))
+  taken-enable-avail-notifications-desc-tied κ a r s p = (ap (λ (o : takenOutcome.Changed). saysQuiet true (o .answer)) (sym p), ap (afterAvailTurn (withConsumer w (a .0) (now (a .1 .0)) (w .heldCounts))) (sym p))
 
-  pub taken-enable-avail-notifications-for-next-tied : Ties taken-enable-avail-notifications-for-next.Post (λ a r s. Step (withConsumer w (a .0) (now (a .1 .0)) (w .held)) enableAvailForNext (saysQuiet true (takenOutcome.answerOf r)) (withConsumer w (takenOutcome.recordOf r) (now (s .1 .0)) (w .held)))
+  pub taken-enable-avail-notifications-for-next-tied : Ties taken-enable-avail-notifications-for-next.Post (λ a r s. Step (withConsumer w (a .0) (now (a .1 .0)) (w .heldCounts)) enableAvailForNext (saysQuiet true (takenOutcome.answerOf r)) (withConsumer w (takenOutcome.recordOf r) (now (s .1 .0)) (w .heldCounts)))
   unfolding ownSays ownLeaves
-  taken-enable-avail-notifications-for-next-tied κ a r s p = (ap (λ (o : takenOutcome.Changed). saysQuiet true (o .answer)) (sym p), ap (afterAvailTurn (withConsumer w (a .0) (now (a .1 .0)) (w .held))) (sym p))
+  taken-enable-avail-notifications-for-next-tied κ a r s p = (ap (λ (o : takenOutcome.Changed). saysQuiet true (o .answer)) (sym p), ap (afterAvailTurn (withConsumer w (a .0) (now (a .1 .0)) (w .heldCounts))) (sym p))
+
+  -- ---- the resets, which are no calls of the machine (packed/specs/Reset.antt)
+
+  pub made-reset-tied : Ties made-reset.Post (λ a r s. (producerReset (withProducer w (a .0) (now (a .1 .0)) (now (a .1 .1 .0)) (now (a .1 .1 .1 .0))) .answer ≡ made.answerOf r) × (withProducerReset (withProducer w (a .0) (now (a .1 .0)) (now (a .1 .1 .0)) (now (a .1 .1 .1 .0))) ≡ withProducer w (made.recordOf r) (now (s .1 .0)) (now (s .1 .1 .0)) (now (s .1 .1 .1 .0))))
+  made-reset-tied κ a r s p = (ap (λ (o : made.Outcome). o .answer) (sym p), ap (afterMade (withProducer w (a .0) (now (a .1 .0)) (now (a .1 .1 .0)) (now (a .1 .1 .1 .0)))) (sym p))
+
+  pub taken-reset-tied : Ties taken-reset.Post (λ a r s. (consumerReset (withConsumer w (a .0) (now (a .1 .0)) (now (a .1 .1 .0))) .answer ≡ takenOutcome.answerOf r) × (withConsumerReset (withConsumer w (a .0) (now (a .1 .0)) (now (a .1 .1 .0))) ≡ withConsumer w (takenOutcome.recordOf r) (now (s .1 .0)) (now (s .1 .1 .0))))
+  taken-reset-tied κ a r s p = (ap (λ (o : takenOutcome.Outcome). o .answer) (sym p), ap (afterCompleted (withConsumer w (a .0) (now (a .1 .0)) (now (a .1 .1 .0)))) (sym p))
+
+-- ---- the openings: where `new` is given what an opening is, it answers the record of the opened world and leaves its tables
+
+-- numbers and lists that are given to `new`, of any opening that they are the geometry and the bytes of
+abbrev Geometry : Opening → ℕ → ℕ → ℕ → ℕ → List ℕ → Type 0
+Geometry o size table driver device ring = (size ≡ o .size) × (table ≡ o .table) × (driver ≡ o .driver) × (device ≡ o .device) × (ring ≡ o .ring)
+
+pub made-new-tied : Ties made-new.Post (λ a r s. (o : Opening) → Geometry o (a .0) (a .1 .0) (a .1 .1 .0) (a .1 .1 .1 .0) (now (a .1 .1 .1 .1 .0)) → now (a .1 .1 .1 .1 .1 .0) ≡ o .ids → now (a .1 .1 .1 .1 .1 .1 .0) ≡ o .counts → (r ≡ madeOpened.Ring (openedWorld o .prod)) × (now (s .1 .1 .1 .1 .1 .0) ≡ openedWorld o .ids) × (now (s .1 .1 .1 .1 .1 .1 .0) ≡ openedWorld o .counts))
+made-new-tied κ a r s p o g i k =
+    let e : madeFresh.openOf (a .0) (a .1 .0) (a .1 .1 .0) (a .1 .1 .1 .0) (now (a .1 .1 .1 .1 .0)) (now (a .1 .1 .1 .1 .1 .0)) (now (a .1 .1 .1 .1 .1 .1 .0)) ≡ producerOpens o =
+    rw (g .0, g .1, g .2, g .3, g .4, i, k) refl in
+    (madeSame.opened-same r (madeOpened.Ring (openedWorld o .prod)) (ap (λ (x : madeFresh.Open). x .answer) (p ∙ e) ∙ made-answer o), ap (λ (x : madeFresh.Open). x .ids) (p ∙ e), ap (λ (x : madeFresh.Open). x .counts) (p ∙ e))
+
+pub taken-new-tied : Ties taken-new.Post (λ a r s. (o : Opening) → Geometry o (a .0) (a .1 .0) (a .1 .1 .0) (a .1 .1 .1 .0) (now (a .1 .1 .1 .1 .0)) → now (a .1 .1 .1 .1 .1 .0) ≡ o .heldCounts → (r ≡ takenOpened.Ring (openedWorld o .cons)) × (now (s .1 .1 .1 .1 .1 .0) ≡ openedWorld o .heldCounts))
+taken-new-tied κ a r s p o g k =
+    let e : takenFresh.openOf (a .0) (a .1 .0) (a .1 .1 .0) (a .1 .1 .1 .0) (now (a .1 .1 .1 .1 .0)) (now (a .1 .1 .1 .1 .1 .0)) ≡ consumerOpens o =
+    rw (g .0, g .1, g .2, g .3, g .4, k) refl in
+    (takenSame.opened-same r (takenOpened.Ring (openedWorld o .cons)) (ap (λ (x : takenFresh.Open). x .answer) (p ∙ e) ∙ taken-answer o), ap (λ (x : takenFresh.Open). x .counts) (p ∙ e))

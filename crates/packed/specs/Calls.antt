@@ -62,7 +62,8 @@ pub data Own : Type 0 where
   enableAvailForNext : Own
 
 -- "Calls refused for bad records or buffers": a call given any record, tables and bytes, the producer's with its record, ring, IDs and counts,
--- the consumer's with its record, ring and counts
+-- the consumer's with its record, ring and counts. The call may be of the other end, too: then that end is given its own record and tables
+-- with these bytes, which is one more call given what is not its own; the premise asks of it the same 7 or 8, and the promise nothing
 pub data Foreign : Type 0 where
   producers : RingProducer → List ℕ → List ℕ → List ℕ → Own → Foreign
   consumers : RingConsumer → List ℕ → List ℕ → Own → Foreign

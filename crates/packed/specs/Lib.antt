@@ -1,3 +1,4 @@
 pub mod Calls
 pub mod Machine
 pub mod Opening
+pub mod Reset

@@ -37,10 +37,11 @@ pub record World : Type 0 where
   pub ids : List ℕ
   pub counts : List ℕ
   pub cons : RingConsumer
-  pub held : List ℕ
+  pub heldCounts : List ℕ
   pub ring : List ℕ
 
--- ---- the answers of the producer's and the consumer's questions: as their contracts have them; the promise says nothing of the values
+-- ---- the answers of the producer's and the consumer's questions, as their contracts have them. The promise says nothing of the values; what
+-- they count is told by packed/proofs/Counted.antt
 
 abbrev pub producerValues : ProducerQuestion → RingProducer → List ℕ
 producerValues producerNumFree p = p .free ∷ []
@@ -58,6 +59,13 @@ consumerValues consumerIsFull p = bit (eqb (p .inflight) (p .layout .size)) ∷ 
 consumerValues consumerLen p = p .layout .size ∷ []
 consumerValues consumerAvailCursor p = valuesOf (p .avail)
 consumerValues consumerUsedCursor p = valuesOf (p .used)
+
+-- in a world
+abbrev pub producerAnswers : World → ProducerQuestion → Answer
+producerAnswers w q = askOf (madeRecord.badRecord (w .prod)) (producerValues q (w .prod))
+
+abbrev pub consumerAnswers : World → ConsumerQuestion → Answer
+consumerAnswers w q = askOf (takenRecord.badRecord (w .cons)) (consumerValues q (w .cons))
 
 -- ---- an event, read off a call's answer, what was handed in with it, and the outputs at exit
 
@@ -126,24 +134,24 @@ abbrev pub tellsOf : World → Chain → made.Outcome
 tellsOf w c = madeTold.tellOf (w .prod .avail) (submitsOf w c)
 
 abbrev pub afterMade : World → made.Outcome → World
-afterMade w o = record { prod = o .end; ids = o .ids; counts = o .counts; cons = w .cons; held = w .held; ring = o .ring }
+afterMade w o = record { prod = o .end; ids = o .ids; counts = o .counts; cons = w .cons; heldCounts = w .heldCounts; ring = o .ring }
 
 abbrev pub afterUsedTurn : World → made.Changed → World
-afterUsedTurn w o = record { prod = o .end; ids = w .ids; counts = w .counts; cons = w .cons; held = w .held; ring = o .ring }
+afterUsedTurn w o = record { prod = o .end; ids = w .ids; counts = w .counts; cons = w .cons; heldCounts = w .heldCounts; ring = o .ring }
 
 -- of the consumer's
 
 abbrev pub afterTaken : World → Taken → World
-afterTaken w t = record { prod = w .prod; ids = w .ids; counts = w .counts; cons = t .end; held = t .counts; ring = w .ring }
+afterTaken w t = record { prod = w .prod; ids = w .ids; counts = w .counts; cons = t .end; heldCounts = t .counts; ring = w .ring }
 
 abbrev pub afterCompleted : World → takenOutcome.Outcome → World
-afterCompleted w o = record { prod = w .prod; ids = w .ids; counts = w .counts; cons = o .end; held = o .counts; ring = o .ring }
+afterCompleted w o = record { prod = w .prod; ids = w .ids; counts = w .counts; cons = o .end; heldCounts = o .counts; ring = o .ring }
 
 abbrev pub afterRolled : World → takenOutcome.Rolled → World
-afterRolled w o = record { prod = w .prod; ids = w .ids; counts = w .counts; cons = o .end; held = o .counts; ring = w .ring }
+afterRolled w o = record { prod = w .prod; ids = w .ids; counts = w .counts; cons = o .end; heldCounts = o .counts; ring = w .ring }
 
 abbrev pub afterAvailTurn : World → takenOutcome.Changed → World
-afterAvailTurn w o = record { prod = w .prod; ids = w .ids; counts = w .counts; cons = o .end; held = w .held; ring = o .ring }
+afterAvailTurn w o = record { prod = w .prod; ids = w .ids; counts = w .counts; cons = o .end; heldCounts = w .heldCounts; ring = o .ring }
 
 -- ---- one call by an end given its own: what it says, and the world after it, both by the definition that its contract cites
 -- (packed/proofs/Tied.antt)
@@ -155,18 +163,18 @@ ownSays w (submitOne a l b) = saysSubmitted (oneOf a l b) (submitsOf w (oneOf a 
 ownSays w (submitOneWithNotify a l b) = saysSubmitted (oneOf a l b) (tellsOf w (oneOf a l b) .answer)
 ownSays w pollUsed = saysReclaimed (usedPoll.pollOf (w .prod) (w .ring) (w .ids) (w .counts) .answer)
 ownSays w nextId = saysNext (usedPoll.nextOf (w .prod) (w .ids) (w .counts))
-ownSays w (producerAsked q) = saysQuiet true (askOf (madeRecord.badRecord (w .prod)) (producerValues q (w .prod)))
+ownSays w (producerAsked q) = saysQuiet true (producerAnswers w q)
 ownSays w (shouldNotifySince c) = saysQuiet (ltb (c .head) (w .prod .layout .size)) (usedNotices.sinceOf (w .prod) (w .ring) c)
 ownSays w (turnUsed f) = saysQuiet true (usedNotices.turnOf (w .prod) (w .ring) f .answer)
 ownSays w (enableUsedDesc o b) = saysQuiet true (usedNotices.armOf (w .prod) (w .ring) o b .answer)
 ownSays w enableUsedForNext = saysQuiet true (usedNotices.armOf (w .prod) (w .ring) (w .prod .used .head) (w .prod .used .wrap) .answer)
-ownSays w (pollAvailable outs louts) = saysPolled (w .cons .layout .size) outs louts (pollOf (w .cons) (w .ring) (w .held) outs louts)
-ownSays w (submitUsed i l) = saysCompleted i l (completeOf (w .cons) (w .ring) (w .held) i l .answer)
-ownSays w (submitUsedWithNotify i l) = saysCompleted i l (tellOf (w .cons .used) (completeOf (w .cons) (w .ring) (w .held) i l) .answer)
+ownSays w (pollAvailable outs louts) = saysPolled (w .cons .layout .size) outs louts (pollOf (w .cons) (w .ring) (w .heldCounts) outs louts)
+ownSays w (submitUsed i l) = saysCompleted i l (completeOf (w .cons) (w .ring) (w .heldCounts) i l .answer)
+ownSays w (submitUsedWithNotify i l) = saysCompleted i l (tellOf (w .cons .used) (completeOf (w .cons) (w .ring) (w .heldCounts) i l) .answer)
 ownSays w peekAvailable = saysPeeked (peekOf (w .cons) (w .ring))
 ownSays w pollCheckpoint = saysMarked (askOf (takenRecord.badRecord (w .cons)) (checkpointValues (checkpointOf (w .cons))))
-ownSays w (rollbackPolls c js) = saysRolled (w .cons .layout .size) c js (rollbackOf (w .cons) (w .held) c js .answer)
-ownSays w (consumerAsked q) = saysQuiet true (askOf (takenRecord.badRecord (w .cons)) (consumerValues q (w .cons)))
+ownSays w (rollbackPolls c js) = saysRolled (w .cons .layout .size) c js (rollbackOf (w .cons) (w .heldCounts) c js .answer)
+ownSays w (consumerAsked q) = saysQuiet true (consumerAnswers w q)
 ownSays w (turnAvail f) = saysQuiet true (availNotices.turnOf (w .cons) (w .ring) f .answer)
 ownSays w (enableAvailDesc o b) = saysQuiet true (availNotices.armOf (w .cons) (w .ring) o b .answer)
 ownSays w enableAvailForNext = saysQuiet true (availNotices.armOf (w .cons) (w .ring) (w .cons .avail .head) (w .cons .avail .wrap) .answer)
@@ -183,12 +191,12 @@ ownLeaves w (shouldNotifySince c) = w
 ownLeaves w (turnUsed f) = afterUsedTurn w (usedNotices.turnOf (w .prod) (w .ring) f)
 ownLeaves w (enableUsedDesc o b) = afterUsedTurn w (usedNotices.armOf (w .prod) (w .ring) o b)
 ownLeaves w enableUsedForNext = afterUsedTurn w (usedNotices.armOf (w .prod) (w .ring) (w .prod .used .head) (w .prod .used .wrap))
-ownLeaves w (pollAvailable outs louts) = afterTaken w (pollOf (w .cons) (w .ring) (w .held) outs louts)
-ownLeaves w (submitUsed i l) = afterCompleted w (completeOf (w .cons) (w .ring) (w .held) i l)
-ownLeaves w (submitUsedWithNotify i l) = afterCompleted w (tellOf (w .cons .used) (completeOf (w .cons) (w .ring) (w .held) i l))
+ownLeaves w (pollAvailable outs louts) = afterTaken w (pollOf (w .cons) (w .ring) (w .heldCounts) outs louts)
+ownLeaves w (submitUsed i l) = afterCompleted w (completeOf (w .cons) (w .ring) (w .heldCounts) i l)
+ownLeaves w (submitUsedWithNotify i l) = afterCompleted w (tellOf (w .cons .used) (completeOf (w .cons) (w .ring) (w .heldCounts) i l))
 ownLeaves w peekAvailable = w
 ownLeaves w pollCheckpoint = w
-ownLeaves w (rollbackPolls c js) = afterRolled w (rollbackOf (w .cons) (w .held) c js)
+ownLeaves w (rollbackPolls c js) = afterRolled w (rollbackOf (w .cons) (w .heldCounts) c js)
 ownLeaves w (consumerAsked q) = w
 ownLeaves w (turnAvail f) = afterAvailTurn w (availNotices.turnOf (w .cons) (w .ring) f)
 ownLeaves w (enableAvailDesc o b) = afterAvailTurn w (availNotices.armOf (w .cons) (w .ring) o b)
@@ -197,12 +205,12 @@ ownLeaves w enableAvailForNext = afterAvailTurn w (availNotices.armOf (w .cons) 
 -- ---- a call given what is not the end's own: the world in which it is
 
 abbrev pub astrayIn : World → Foreign → World
-astrayIn w (producers p r s k c) = record { prod = p; ids = s; counts = k; cons = w .cons; held = w .held; ring = r }
-astrayIn w (consumers p r k c) = record { prod = w .prod; ids = w .ids; counts = w .counts; cons = p; held = k; ring = r }
+astrayIn w (producers p r s k c) = record { prod = p; ids = s; counts = k; cons = w .cons; heldCounts = w .heldCounts; ring = r }
+astrayIn w (consumers p r k c) = record { prod = w .prod; ids = w .ids; counts = w .counts; cons = p; heldCounts = k; ring = r }
 
-abbrev pub asked : Foreign → Own
-asked (producers p r s k c) = c
-asked (consumers p r k c) = c
+abbrev pub callOf : Foreign → Own
+callOf (producers p r s k c) = c
+callOf (consumers p r k c) = c
 
 -- its number: 0 unless it is refused
 abbrev pub numberOfLook : said.Look Checkpoint → ℕ
@@ -225,7 +233,7 @@ numberOf (said.looked l) = numberOfLook l
 -- (packed/proofs/Astray.antt, `astray-leaves`).
 unfoldable pub says : World → Call → Event Checkpoint
 says w (own c) = ownSays w c
-says w (foreign f) = said.looked (said.astray (numberOf (ownSays (astrayIn w f) (asked f))))
+says w (foreign f) = said.looked (said.astray (numberOf (ownSays (astrayIn w f) (callOf f))))
 
 unfoldable pub leaves : World → Call → World
 leaves w (own c) = ownLeaves w c

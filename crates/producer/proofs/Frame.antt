@@ -1,19 +1,19 @@
 -- Which bytes a chain that is written touches, and what stands in its slots then.
 -- Assumes nothing.
 use Prim.Native.Nat.{ℕ, zero, suc, _+_, _-_, _*_, _^_, _≤_, _<_}
-use mathlib.Core.Path.{_≡_, refl, sym, _∙_, ap, ap₂}
+use mathlib.Core.Path.{_≡_, refl, sym, _∙_, ap}
 use mathlib.Core.Logic.{inl, inr, ⊎-elim}
 use mathlib.Core.List.{List}
 use mathlib.Core.Bool.{Bool, false, not, cond}
 use native.Mathlib.Omega.{arith}
-use native.Mathlib.Nat.{add-zero, suc-add, add-suc, sub-zero}
+use native.Mathlib.Nat.{add-zero, suc-add, add-suc}
 use lib.Dec.{ltb}
 use lib.ListN.{length, getD}
 use Rattle.base.specs.Bytes.{getOf}
 use Rattle.base.proofs.Tests.{each-way}
 use Rattle.cursor.specs.declared.RingCursor.{RingCursor}
 use Rattle.cursor.specs.Cursor.{step, steps}
-use Rattle.cursor.proofs.Laws.{step-below, steps-below, steps-none, heads-apart}
+use Rattle.cursor.proofs.Laws.{step-below, steps-none, heads-apart}
 use Rattle.desc.specs.declared.Descriptor.{Descriptor}
 use Rattle.desc.specs.Flags.{NEXT, WRITE, INDIRECT, has}
 use Rattle.desc.specs.Desc.{markAvail}

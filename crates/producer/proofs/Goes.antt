@@ -3,13 +3,14 @@
 use Prim.Native.Nat.{ℕ, _+_, _-_, _≤_, _<_}
 use mathlib.Core.Path.{_≡_, refl, ap}
 use mathlib.Core.List.{List, [], _∷_}
-use mathlib.Core.Bool.{Bool, true, false, cond, _||_}
+use mathlib.Core.Bool.{Bool, true, false, cond}
 use native.Mathlib.Omega.{arith}
 use lib.Dec.{leb, eqb}
 use lib.ListN.{length, getD, set}
-use borrow.Author.Tests.{eq-eqb, ne-eqb, eqb-true, lt-ltb, le-ltb, lt-leb}
+use borrow.Author.Tests.{eq-eqb, ne-eqb, lt-ltb, le-ltb, lt-leb}
 use Rattle.base.specs.Answer.{done}
-use Rattle.base.proofs.Tests.{split}
+use Rattle.base.proofs.Refusals.{valued-number}
+use Rattle.base.proofs.Tests.{split, or-true}
 use Rattle.cursor.specs.declared.RingCursor.{RingCursor}
 use Rattle.cursor.specs.Cursor.{fresh, steps}
 use Rattle.desc.specs.declared.Descriptor.{Descriptor}
@@ -19,12 +20,12 @@ use Rattle.layout.specs.declared.Layout.{Layout}
 use Rattle.layout.specs.Layout.{badLayout, outside}
 use Rattle.chain.specs.Chain.{badChain}
 use Rattle.producer.specs.declared.RingProducer.{RingProducer}
-use Rattle.producer.specs.Record.{badRecord, badLent}
+use Rattle.producer.specs.Record.{badRecord, badLent, bytesRefusal}
 use Rattle.producer.specs.Outcome.{Outcome, outcome}
 use Rattle.producer.specs.Submit.{topOf, submitRefusal, takenOf, submittedOf, Written}
 use Rattle.producer.specs.Tell.{tellOf}
 use Rattle.producer.specs.Poll.{pollRefusal, freedOf, polledOf, nextRefusal}
-use Rattle.producer.specs.Notices.{bytesRefusal, sinceRefusal, shadowOf}
+use Rattle.producer.specs.Notices.{sinceRefusal, shadowOf}
 use Rattle.producer.specs.Fresh.{freshOf}
 
 pub not-bad :
@@ -132,10 +133,6 @@ since-goes p bytes old r o h = simp (r, o, lt-leb (p .layout .size) (old .head) 
 pub since-bad : (p : RingProducer) (bytes : ℕ) (old : RingCursor) → leb (p .layout .size) (old .head) ≡ true → sinceRefusal p bytes old ≡ 7
 unfolding sinceRefusal
 since-bad p bytes old h = simp h (ap (λ (b : Bool). cond b 7 (cond (outside (p .layout) bytes) 8 0)) (or-true (badRecord p)))
-  where
-    or-true : (b : Bool) → b || true ≡ true
-    or-true true = refl
-    or-true false = refl
 
 pub shadow-is :
     (p : RingProducer) (f : ℕ)
@@ -148,30 +145,15 @@ shadow-is p f = refl
 module _ (old : RingCursor) (o : Outcome) where
   pub tell-number : tellOf old o .answer .number ≡ o .answer .number
   unfolding tellOf
-  tell-number =
-      split (eqb (o .answer .number) 0)
-      (λ t. simp t (let e = eqb-true (o .answer .number) 0 t in omega (arith, e)))
-      (λ f. simp f)
+  tell-number = valued-number _ (o .answer)
 
   pub tell-value : getD (tellOf old o .answer .values) 0 0 ≡ getD (o .answer .values) 0 0
   unfolding tellOf
   tell-value = split (eqb (o .answer .number) 0) (λ t. simp t) (λ f. simp f)
 
-  pub tell-end : tellOf old o .end ≡ o .end
+  pub tell-leaves : tellOf old o ≡ outcome (tellOf old o .answer) (o .end) (o .ring) (o .ids) (o .counts)
   unfolding tellOf
-  tell-end = refl
-
-  pub tell-ring : tellOf old o .ring ≡ o .ring
-  unfolding tellOf
-  tell-ring = refl
-
-  pub tell-ids : tellOf old o .ids ≡ o .ids
-  unfolding tellOf
-  tell-ids = refl
-
-  pub tell-counts : tellOf old o .counts ≡ o .counts
-  unfolding tellOf
-  tell-counts = refl
+  tell-leaves = refl
 
 -- ---- a fresh record
 pub fresh-is : (l : Layout) → freshOf l ≡ record { layout = l; avail = fresh; used = fresh; free = l .size; height = l .size; shadow = ENABLE }

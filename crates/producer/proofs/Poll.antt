@@ -17,7 +17,7 @@ use Rattle.producer.specs.Record.{badRecord, badLent}
 use Rattle.producer.specs.Outcome.{outcome}
 use Rattle.producer.specs.Submit.{topOf}
 use Rattle.producer.proofs.Ready.{Sound, sound, Lent, lent}
-use Rattle.base.proofs.Ladder.{passed, cond-lt}
+use Rattle.base.proofs.Ladder.{passed, both-passed, cond-lt, both-below}
 use Rattle.ring.specs.Slots.{slotOf}
 use Rattle.producer.specs.Poll.{pollRefusal, polledOf, pollOf, nextRefusal, nextOf}
 
@@ -36,17 +36,16 @@ module _ (p : RingProducer) (bytes : ℕ) (d : Descriptor) (ids : ℕ) (counts :
   unfolding pollRefusal
   poll-ready e =
       let n = getD counts (d .id) 0 in
-      let e₁ = passed (badRecord p) 7 _ (omega arith) e in
-      let e₂ = passed (badLent p bytes ids (length counts)) 8 _ (omega arith) (e₁ .1) in
-      let e₃ = passed (not (isUsed (d .flags) (p .used .wrap))) 3 _ (omega arith) (e₂ .1) in
-      let e₄ = passed _ 5 0 (omega arith) (e₃ .1) in
-      let i = neither (leb (p .layout .size) (d .id)) _ (e₄ .0) in
+      let e₁ = both-passed (badRecord p) (badLent p bytes ids (length counts)) _ e in
+      let e₂ = passed (not (isUsed (d .flags) (p .used .wrap))) 3 _ (omega arith) (e₁ .1 .1) in
+      let e₃ = passed _ 5 0 (omega arith) (e₂ .1) in
+      let i = neither (leb (p .layout .size) (d .id)) _ (e₃ .0) in
       let h = neither (eqb n 0) _ (i .1) in
       let r = neither (ltb (p .layout .size) (p .free + n)) _ (h .1) in
       record {
         sound = sound p (e₁ .0);
-        lent = lent p bytes ids (length counts) (e₂ .0);
-        used = not-false (isUsed (d .flags) (p .used .wrap)) (e₃ .0);
+        lent = lent p bytes ids (length counts) (e₁ .1 .0);
+        used = not-false (isUsed (d .flags) (p .used .wrap)) (e₂ .0);
         id = leb-false (p .layout .size) (d .id) (i .0);
         held = positive (eqb-false n 0 (h .0));
         room = ltb-false (p .layout .size) (p .free + n) (r .0);
@@ -56,12 +55,11 @@ module _ (p : RingProducer) (bytes : ℕ) (d : Descriptor) (ids : ℕ) (counts :
   pub poll-below : pollRefusal p bytes d ids counts < 9
   unfolding pollRefusal
   poll-below =
-      cond-lt (badRecord p) 7 _ (omega arith)
-      (cond-lt (badLent p bytes ids (length counts)) 8 _ (omega arith)
+      both-below (badRecord p) (badLent p bytes ids (length counts)) _
       (cond-lt (not (isUsed (d .flags) (p .used .wrap))) 3 _ (omega arith)
       (cond-lt (leb (p .layout .size) (d .id)
       || (eqb (getD counts (d .id) 0) 0
-      || (ltb (p .layout .size) (p .free + getD counts (d .id) 0) || leb (p .layout .size) (p .height)))) 5 0 (omega arith) (omega arith))))
+      || (ltb (p .layout .size) (p .free + getD counts (d .id) 0) || leb (p .layout .size) (p .height)))) 5 0 (omega arith) (omega arith)))
 
 module _ (p : RingProducer) (ring ids counts : List ℕ) where
   abbrev at-used : Descriptor
@@ -91,17 +89,16 @@ module _ (p : RingProducer) (ids counts : List ℕ) where
   pub next-ready : nextRefusal p ids counts ≡ 0 → NextReady
   unfolding nextRefusal
   next-ready e =
-      let e₁ = passed (badRecord p) 7 _ (omega arith) e in
-      let e₂ = passed (ltb (length ids) (p .layout .size) || ltb (length counts) (p .layout .size)) 8 _ (omega arith) (e₁ .1) in
-      let e₃ = passed (eqb (p .height) 0) 4 _ (omega arith) (e₂ .1) in
-      let e₄ = passed _ 5 0 (omega arith) (e₃ .1) in
-      let l = neither (ltb (length ids) (p .layout .size)) _ (e₂ .0) in
-      let i = neither (leb (p .layout .size) (topOf p ids)) _ (e₄ .0) in
+      let e₁ = both-passed (badRecord p) (ltb (length ids) (p .layout .size) || ltb (length counts) (p .layout .size)) _ e in
+      let e₂ = passed (eqb (p .height) 0) 4 _ (omega arith) (e₁ .1 .1) in
+      let e₃ = passed _ 5 0 (omega arith) (e₂ .1) in
+      let l = neither (ltb (length ids) (p .layout .size)) _ (e₁ .1 .0) in
+      let i = neither (leb (p .layout .size) (topOf p ids)) _ (e₃ .0) in
       record {
         sound = sound p (e₁ .0);
         ids-whole = ltb-false (length ids) (p .layout .size) (l .0);
         counts-whole = ltb-false (length counts) (p .layout .size) (l .1);
-        stack = positive (eqb-false (p .height) 0 (e₃ .0));
+        stack = positive (eqb-false (p .height) 0 (e₂ .0));
         id = leb-false (p .layout .size) (topOf p ids) (i .0);
         unheld = eqb-true (getD counts (topOf p ids) 0) 0 (not-false (eqb (getD counts (topOf p ids) 0) 0) (i .1));
       }
@@ -109,10 +106,9 @@ module _ (p : RingProducer) (ids counts : List ℕ) where
   pub next-below : nextRefusal p ids counts < 9
   unfolding nextRefusal
   next-below =
-      cond-lt (badRecord p) 7 _ (omega arith)
-      (cond-lt (ltb (length ids) (p .layout .size) || ltb (length counts) (p .layout .size)) 8 _ (omega arith)
+      both-below (badRecord p) (ltb (length ids) (p .layout .size) || ltb (length counts) (p .layout .size)) _
       (cond-lt (eqb (p .height) 0) 4 _ (omega arith)
-      (cond-lt (leb (p .layout .size) (topOf p ids) || not (eqb (getD counts (topOf p ids) 0) 0)) 5 0 (omega arith) (omega arith))))
+      (cond-lt (leb (p .layout .size) (topOf p ids) || not (eqb (getD counts (topOf p ids) 0) 0)) 5 0 (omega arith) (omega arith)))
 
   pub next-refused : (nextRefusal p ids counts ≡ 0 → ⊥) → nextOf p ids counts ≡ refused (nextRefusal p ids counts)
   unfolding nextOf

@@ -1,10 +1,8 @@
 -- A submission that says whether to tell the device (document 01, Notify).
 use mathlib.Core.List.{[], _∷_}
-use mathlib.Core.Bool.{cond}
-use lib.Dec.{eqb}
 use lib.ListN.{getD}
 use Rattle.base.specs.Refusals.{numberOf}
-use Rattle.base.specs.Answer.{Answer, done, refused, bit}
+use Rattle.base.specs.Answer.{Answer, done, refused, valued, bit}
 use Rattle.cursor.specs.declared.RingCursor.{RingCursor}
 use Rattle.ring.specs.Events.{told}
 use Rattle.producer.specs.declared.RingProducer.{RingProducer}
@@ -14,16 +12,10 @@ use Rattle.producer.specs.Outcome.{Outcome, outcome}
 
 -- success has one value more: what the device's event area, in the bytes that the submission left, asks of the move from the
 -- avail cursor before it to the one behind it
-abbrev pub valued : RingCursor → Outcome → Answer
-valued old o =
-    cond (eqb (o .answer .number) 0)
-    (done (getD (o .answer .values) 0 0
-    ∷ bit (told (o .end .layout .device) (o .end .layout .size) old (o .end .avail) (o .ring))
-    ∷ []))
-    (o .answer)
-
 unfoldable pub tellOf : RingCursor → Outcome → Outcome
-tellOf old o = outcome (valued old o) (o .end) (o .ring) (o .ids) (o .counts)
+tellOf old o =
+    let yes = told (o .end .layout .device) (o .end .layout .size) old (o .end .avail) (o .ring) in
+    outcome (valued (getD (o .answer .values) 0 0 ∷ bit yes ∷ []) (o .answer)) (o .end) (o .ring) (o .ids) (o .counts)
 
 abbrev pub toldAnswer : SubmittedTold → Answer
 toldAnswer (Result r p) = done (r .id ∷ bit (r .notify) ∷ [])

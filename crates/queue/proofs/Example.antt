@@ -7,10 +7,10 @@ use Prim.Native.Nat.{ℕ}
 use native.Mathlib.Omega.{arith}
 use mathlib.Core.List.{[], _∷_, _++_}
 use lib.Dec.{T}
-use Rattle.queue.specs.History.{Item, Done, Event, History, slotsIn, items, pubs, polls, comps, reclaims, lives, held, out, finished}
+use Rattle.queue.specs.History.{Item, Done, Event, History, slotsIn, items, pubs, polls, comps, reclaims, standing, held, out, finished}
 use Rattle.queue.specs.History.{poll, reclaim, rollback, nexted, refused, submitted, polled, completed, reclaimed, marked, rolled, looked}
 use Rattle.queue.specs.Promise.{Undoes, UndoesAll, Asked, Each, Fifo}
-use Rattle.queue.specs.Sentences.{All, isPoll, Still, isReclaim, Own, sources, Literally}
+use Rattle.queue.specs.Sentences.{All, isPoll, Still, isReclaim, ItsOwn, sources, Literally}
 use Rattle.queue.proofs.Model.{Mark, next, model, Undo, UndoAll, AllOk}
 use Rattle.queue.proofs.Trace.{fifo}
 use Rattle.queue.proofs.Ahead.{ahead}
@@ -95,20 +95,20 @@ ok-run =
 
 -- ---- what it says
 
-says : (pubs run ≡ a ∷ b ∷ []) × (items (lives run) ≡ a ∷ b ∷ []) × (items (finished run) ≡ b ∷ a ∷ []) × (comps run ≡ db ∷ da ∷ [])
+says : (pubs run ≡ a ∷ b ∷ []) × (items (standing run) ≡ a ∷ b ∷ []) × (items (finished run) ≡ b ∷ a ∷ []) × (comps run ≡ db ∷ da ∷ [])
     × (reclaims run ≡ db ∷ da ∷ []) × (out run ≡ []) × (sources run ≡ 0 ∷ 1 ∷ [])
-unfolding pubs lives finished comps reclaims out sources held
+unfolding pubs standing finished comps reclaims out sources held
 says = (refl, refl, refl, refl, refl, refl, refl)
 
 -- ---- the premise of the promise
 
 undoes-first : UndoesAll (polled a ∷ marked 7 ∷ begun) 7 (3 ∷ [])
-unfolding comps lives polls
+unfolding comps standing polls
 undoes-first =
     record { undoes = record { since = polled a ∷ []; before = begun; took = refl; none-completed = refl; names = λ y. refl }; stand = refl }
 
 undoes-none : Undoes (looked (refused poll false 8) ∷ rolledBack) 7 []
-unfolding comps lives polls
+unfolding comps standing polls
 undoes-none =
     record {
       since = looked (refused poll false 8) ∷ rolled 7 (3 ∷ []) ∷ polled a ∷ [];
@@ -126,8 +126,8 @@ promised-run = fifo 4 run ok-run
 
 -- ---- `ahead`: b waits behind a; a poll that is not counted, a rollback of nothing and one poll later, the next poll gives b
 
-behind : pubs rolledBack ≡ items (lives rolledBack) ++ ((a ∷ []) ++ (b ∷ []))
-unfolding pubs lives
+behind : pubs rolledBack ≡ items (standing rolledBack) ++ ((a ∷ []) ++ (b ∷ []))
+unfolding pubs standing
 behind = refl
 
 still : All Still pollings
@@ -157,8 +157,8 @@ literal-run : Each Literally run
 literal-run = literal 4 run ok-run
 
 -- the first completion that came back is of the second submission
-own-first : Own run 0 1
-unfolding pubs polls lives finished comps reclaims held
+own-first : ItsOwn run 0 1
+unfolding pubs polls standing finished comps reclaims held
 own-first =
     record {
       done = db;

@@ -4,7 +4,7 @@ use Prim.Native.Nat.{ℕ}
 use mathlib.Core.Path.{sym, subst}
 use mathlib.Core.List.{List, [], _∷_}
 use lib.ListN.{length}
-use Rattle.queue.specs.History.{Item, History, items, pubs, lives}
+use Rattle.queue.specs.History.{Item, History, items, pubs, standing}
 use Rattle.queue.specs.History.{submitted, polled, completed, reclaimed, marked, rolled, looked}
 use Rattle.queue.specs.Promise.{Fine, Fifo}
 use Rattle.queue.specs.Sentences.{All, At}
@@ -27,5 +27,5 @@ module _ {C : Type 0} (size : ℕ) where
   -- a poll gives an item that was published: its ID, its elements, and its readable count, which is within them
   pub handed : (h : History C) (x : Item) → Fifo size (polled x ∷ h) → (p : ℕ) × (At (pubs h) p x × Fine (x .chain))
   handed h x f =
-      let a : At (pubs h) (length (items (lives h))) x = subst (λ (l : List Item). At l (length (items (lives h))) x) (sym (f .1 .1)) (at-seam (items (lives h)) x (f .1 .0)) in
-      (length (items (lives h)), (a, at-all (λ (y : Item). Fine (y .chain)) (pubs h) (length (items (lives h))) x a (fine-pubs h (f .0))))
+      let a : At (pubs h) (length (items (standing h))) x = subst (λ (l : List Item). At l (length (items (standing h))) x) (sym (f .1 .1)) (at-seam (items (standing h)) x (f .1 .0)) in
+      (length (items (standing h)), (a, at-all (λ (y : Item). Fine (y .chain)) (pubs h) (length (items (standing h))) x a (fine-pubs h (f .0))))

@@ -9,7 +9,7 @@ use native.Mathlib.Decide.{ℕ-discrete}
 use mathlib.Core.List.{List, [], _∷_, _++_, append-assoc, append-nil}
 use lib.ListN.{length, drop}
 use lib.Dec.{T, eqb, eqb→eq, eqb-refl, T-not}
-use Rattle.queue.specs.History.{Item, Done, Event, History, Poll, slotsOf, slotsIn, items, ids, butLast, without, withoutItem, ofId, times, reclaims, lives, held, out, finished}
+use Rattle.queue.specs.History.{Item, Done, Event, History, Poll, slotsOf, slotsIn, items, ids, butLast, without, withoutItem, ofId, times, reclaims, standing, held, out, finished}
 use Rattle.queue.specs.History.{submitted, polled, completed, reclaimed, marked, rolled, looked}
 use Rattle.queue.specs.Promise.{Has, Unlike}
 use Rattle.queue.specs.Sentences.{All}
@@ -185,22 +185,22 @@ module _ {C : Type 0} where
   served-completed : (size : ℕ) (h : History C) (q : Queue C) (d : Done) → Link h q → Served h q → Served (completed d ∷ h) (next q (completed d))
   unfolding settled finished next
   served-completed size h q d l s =
-      let wider : (p : Poll) → Member p (settled h) → Member p (lives h) = λ p m. rw (l .stand) (member-left p (settled h) (q .fresh) m) in
-      let fresh-in : All (λ (p : Poll). Member p (lives h)) (q .fresh) =
-      all-map (λ (p : Poll). Member p (q .fresh)) (λ (p : Poll). Member p (lives h)) (λ p m. rw (l .stand) (member-right p (settled h) (q .fresh) m)) (q .fresh) (all-here (q .fresh)) in
-      let held-in : All (λ (p : Poll). Member p (lives h)) (q .old ++ q .fresh) =
-      all-append (λ (p : Poll). Member p (lives h)) (q .old) (q .fresh)
-      (all-map (λ (p : Poll). Member p (settled h)) (λ (p : Poll). Member p (lives h)) wider (q .old) (s .old-in)) fresh-in in
+      let wider : (p : Poll) → Member p (settled h) → Member p (standing h) = λ p m. rw (l .stand) (member-left p (settled h) (q .fresh) m) in
+      let fresh-in : All (λ (p : Poll). Member p (standing h)) (q .fresh) =
+      all-map (λ (p : Poll). Member p (q .fresh)) (λ (p : Poll). Member p (standing h)) (λ p m. rw (l .stand) (member-right p (settled h) (q .fresh) m)) (q .fresh) (all-here (q .fresh)) in
+      let held-in : All (λ (p : Poll). Member p (standing h)) (q .old ++ q .fresh) =
+      all-append (λ (p : Poll). Member p (standing h)) (q .old) (q .fresh)
+      (all-map (λ (p : Poll). Member p (settled h)) (λ (p : Poll). Member p (standing h)) wider (q .old) (s .old-in)) fresh-in in
       record {
         finished-in =
-            all-append (λ (p : Poll). Member p (lives h)) (finished h) (ofId (d .id) (held h))
-            (all-map (λ (p : Poll). Member p (settled h)) (λ (p : Poll). Member p (lives h)) wider (finished h) (s .finished-in))
-            (all-ofId (d .id) (λ (p : Poll). Member p (lives h)) (held h) (rw (l .held-is) held-in));
-        old-in = all-without (d .id) (λ (p : Poll). Member p (lives h)) (q .old ++ q .fresh) held-in;
+            all-append (λ (p : Poll). Member p (standing h)) (finished h) (ofId (d .id) (held h))
+            (all-map (λ (p : Poll). Member p (settled h)) (λ (p : Poll). Member p (standing h)) wider (finished h) (s .finished-in))
+            (all-ofId (d .id) (λ (p : Poll). Member p (standing h)) (held h) (rw (l .held-is) held-in));
+        old-in = all-without (d .id) (λ (p : Poll). Member p (standing h)) (q .old ++ q .fresh) held-in;
         once = λ n.
             let a : times n (nos (ofId (d .id) (held h))) ≡ times n (nos (ofId (d .id) (q .old ++ q .fresh))) =
             ap (λ (z : List Poll). times n (nos (ofId (d .id) z))) (l .held-is) in
-            let b : times n (nos (lives h)) ≡ times n (nos (settled h ++ q .fresh)) = ap (λ (z : List Poll). times n (nos z)) (l .stand) in
+            let b : times n (nos (standing h)) ≡ times n (nos (settled h ++ q .fresh)) = ap (λ (z : List Poll). times n (nos z)) (l .stand) in
             omega (
               arith,
               a,

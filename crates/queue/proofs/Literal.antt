@@ -10,7 +10,7 @@ use mathlib.Core.List.{List, [], _∷_, _++_, append-nil}
 use lib.ListN.{length, take, length-append}
 use lib.Seq.{take-append-le, take-all, length-take-le}
 use lib.Dec.{eqb}
-use Rattle.queue.specs.History.{Item, Call, Event, History, Poll, items, butLast, times, pubs, polls, lives}
+use Rattle.queue.specs.History.{Item, Call, Event, History, Poll, items, butLast, times, pubs, polls, standing}
 use Rattle.queue.specs.History.{submit, poll, complete, reclaim, rollback, nextId, other, nexted, peeked, quiet, refused, astray, submitted, polled, completed, reclaimed, marked, rolled, looked}
 use Rattle.queue.specs.Promise.{Unlike, Each}
 use Rattle.queue.specs.Sentences.{At, hasb, latest, sources, Stands, LiterallyNo, Literally}
@@ -74,8 +74,8 @@ latest-is (x ∷ xs) y ys u = rw (hasb-yes xs y ys) (ap suc (latest-is xs y ys u
 module _ {C : Type 0} where
   -- the chain that waits first is of the publication after those that the standing polls are of
   module _ (size : ℕ) (h : History C) (ok : AllOk size h) (x : Item) (later : List Item) (first : model h .waiting ≡ x ∷ later) where
-    whole : pubs h ≡ items (lives h) ++ (x ∷ later)
-    whole = link size h ok .published ∙ ap (λ (w : List Item). items (lives h) ++ w) first
+    whole : pubs h ≡ items (standing h) ++ (x ∷ later)
+    whole = link size h ok .published ∙ ap (λ (w : List Item). items (standing h) ++ w) first
 
     alone : Unlike (x .id) later
     alone =
@@ -92,41 +92,41 @@ module _ {C : Type 0} where
           one-same (x .id),
         ))
 
-    source-is : latest (x .id) (pubs h) ≡ length (lives h)
-    source-is = ap (latest (x .id)) whole ∙ latest-is (items (lives h)) x later alone ∙ length-items (lives h)
+    source-is : latest (x .id) (pubs h) ≡ length (standing h)
+    source-is = ap (latest (x .id)) whole ∙ latest-is (items (standing h)) x later alone ∙ length-items (standing h)
 
     source-at : At (pubs h) (latest (x .id) (pubs h)) x
-    source-at = rw (source-is, ← length-items (lives h), whole) (at-seam (items (lives h)) x later)
+    source-at = rw (source-is, ← length-items (standing h), whole) (at-seam (items (standing h)) x later)
 
   -- the standing polls are of the first publications, in order and each once
-  sources-are : (size : ℕ) (h : History C) → AllOk size h → sources h ≡ upTo (length (lives h))
-  unfolding sources lives
+  sources-are : (size : ℕ) (h : History C) → AllOk size h → sources h ≡ upTo (length (standing h))
+  unfolding sources standing
   sources-are size [] o = refl
   sources-are size (submitted x ∷ h) o = sources-are size h (o .0)
   sources-are size (polled x ∷ h) o =
       let p : Poll = record { no = suc (polls h); item = x } in
-      let more : suc (length (lives h)) ≡ length (lives h ++ (p ∷ [])) = omega (arith, length-append (lives h) (p ∷ [])) in
+      let more : suc (length (standing h)) ≡ length (standing h ++ (p ∷ [])) = omega (arith, length-append (standing h) (p ∷ [])) in
       ap (λ (z : List ℕ). z ++ (latest (x .id) (pubs h) ∷ [])) (sources-are size h (o .0))
-      ∙ ap (λ (k : ℕ). upTo (length (lives h)) ++ (k ∷ [])) (source-is size h (o .0) x (o .1 .0) (o .1 .1)) ∙ ap upTo more
+      ∙ ap (λ (k : ℕ). upTo (length (standing h)) ++ (k ∷ [])) (source-is size h (o .0) x (o .1 .0) (o .1 .1)) ∙ ap upTo more
   sources-are size (completed d ∷ h) o = sources-are size h (o .0)
   sources-are size (reclaimed d ∷ h) o = sources-are size h (o .0)
   sources-are size (marked c ∷ h) o = sources-are size h (o .0)
   sources-are size (rolled c js ∷ h) o =
       ap (butLast (length js)) (sources-are size h (o .0))
-      ∙ ap (λ (k : ℕ). take (k - length js) (upTo (length (lives h)))) (length-upTo (length (lives h)))
-      ∙ take-upTo (length (lives h)) (length (lives h) - length js) (omega arith)
-      ∙ ap upTo (sym (length-take-le (length (lives h) - length js) (lives h) (omega arith)))
+      ∙ ap (λ (k : ℕ). take (k - length js) (upTo (length (standing h)))) (length-upTo (length (standing h)))
+      ∙ take-upTo (length (standing h)) (length (standing h) - length js) (omega arith)
+      ∙ ap upTo (sym (length-take-le (length (standing h) - length js) (standing h) (omega arith)))
   sources-are size (looked l ∷ h) o = sources-are size h (o .0)
 
   module _ (size : ℕ) (h : History C) (ok : AllOk size h) where
-    stands-low : (i : ℕ) → i < length (lives h) → Stands h i
-    stands-low i l = rw (sources-are size h ok) (upTo-some (length (lives h)) i l)
+    stands-low : (i : ℕ) → i < length (standing h) → Stands h i
+    stands-low i l = rw (sources-are size h ok) (upTo-some (length (standing h)) i l)
 
     literal-no : (c : Call C) (good : Bool) (n : ℕ) → Ok size (model h) (looked (refused c good n)) → LiterallyNo h c good n
     literal-no (submit c) good n o = tt
     literal-no poll true n o =
-        let all : pubs h ≡ items (lives h) = link size h ok .published ∙ ap (λ (w : List Item). items (lives h) ++ w) (o .1) ∙ append-nil (items (lives h)) in
-        (o .0, λ i b. stands-low i (omega (arith, ap length all, length-items (lives h))))
+        let all : pubs h ≡ items (standing h) = link size h ok .published ∙ ap (λ (w : List Item). items (standing h) ++ w) (o .1) ∙ append-nil (items (standing h)) in
+        (o .0, λ i b. stands-low i (omega (arith, ap length all, length-items (standing h))))
     literal-no poll false n o = tt
     literal-no (complete d) good n o = tt
     literal-no reclaim good n o = tt
@@ -137,12 +137,12 @@ module _ {C : Type 0} where
     literal-at : (e : Event C) → Ok size (model h) e → Literally h e
     literal-at (submitted x) o = tt
     literal-at (polled x) o =
-        let at : latest (x .id) (pubs h) ≡ length (lives h) = source-is size h ok x (o .0) (o .1) in (
+        let at : latest (x .id) (pubs h) ≡ length (standing h) = source-is size h ok x (o .0) (o .1) in (
           source-at size h ok x (o .0) (o .1),
           (
             (λ (s : Stands h (latest (x .id) (pubs h))).
                 let none : times (latest (x .id) (pubs h)) (sources h) ≡ 0 =
-                rw (at, sources-are size h ok) (upTo-none (length (lives h)) (length (lives h)) (omega arith)) in
+                rw (at, sources-are size h ok) (upTo-none (length (standing h)) (length (standing h)) (omega arith)) in
                 omega arith),
             λ i b. stands-low i (omega (arith, at)),
           ),

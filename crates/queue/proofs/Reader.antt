@@ -11,10 +11,10 @@ use native.Mathlib.Decide.{ℕ-discrete}
 use mathlib.Core.List.{List, [], _∷_, _++_}
 use lib.ListN.{length, drop, length-append}
 use lib.Seq.{drop-at}
-use Rattle.queue.specs.History.{Item, Done, History, Poll, slotsOf, slotsIn, items, ids, withoutItem, times, pubs, comps, reclaims, lives, held, out, finished, waiting}
+use Rattle.queue.specs.History.{Item, Done, History, Poll, slotsOf, slotsIn, items, ids, withoutItem, times, pubs, comps, reclaims, standing, held, out, finished, waiting}
 use Rattle.queue.specs.History.{submitted, polled, completed, reclaimed, marked, rolled, looked}
 use Rattle.queue.specs.Promise.{Unlike}
-use Rattle.queue.specs.Sentences.{All, At, Own, OwnBefore}
+use Rattle.queue.specs.Sentences.{All, At, ItsOwn, ItsOwnBefore}
 use Rattle.queue.proofs.Model.{Member, model, AllOk}
 use Rattle.queue.proofs.Listing.{all-append, Over, Rising, ids-append, length-ids, one, one-same, one-other, one-low, times-cons, member-left}
 use Rattle.queue.proofs.Trace.{settled, Link, link, waiting-is}
@@ -163,17 +163,17 @@ module _ {C : Type 0} where
     finished-low : (j : ℕ) → j < length (comps h) → j < length (finished h)
     finished-low j b = omega (arith, ap length finished-ids, length-ids (finished h), length-dids (comps h))
 
-    stands-at : (j : ℕ) (f : Poll) → At (finished h) j f → Member f (lives h)
+    stands-at : (j : ℕ) (f : Poll) → At (finished h) j f → Member f (standing h)
     stands-at j f a =
         rw (l .stand) (member-left f (settled h) (model h .fresh) (at-all (λ (x : Poll). Member x (settled h)) (finished h) j f a (s .finished-in)))
 
-    chain-at : (p : ℕ) (f : Poll) → At (lives h) p f → At (pubs h) p (f .item)
-    chain-at p f a = rw (l .published) (at-left (items (lives h)) (model h .waiting) p (f .item) (at-items (lives h) p f a))
+    chain-at : (p : ℕ) (f : Poll) → At (standing h) p f → At (pubs h) p (f .item)
+    chain-at p f a = rw (l .published) (at-left (items (standing h)) (model h .waiting) p (f .item) (at-items (standing h) p f a))
 
     made-at : (j : ℕ) (d : Done) → At (reclaims h) j d → At (comps h) j d
     made-at j d a = rw (l .given) (at-left (reclaims h) (model h .done) j d a)
 
-    own : (j p : ℕ) (d : Done) (f : Poll) → At (reclaims h) j d → At (finished h) j f → At (lives h) p f → (q : ℕ) × (q < length (pubs h)) × Own h j q
+    own : (j p : ℕ) (d : Done) (f : Poll) → At (reclaims h) j d → At (finished h) j f → At (standing h) p f → (q : ℕ) × (q < length (pubs h)) × ItsOwn h j q
     own j p d f a b c = (
       p,
       at-low (pubs h) p (f .item) (chain-at p f c),
@@ -191,22 +191,22 @@ module _ {C : Type 0} where
 
     -- "completions meet their own submissions": the j-th completion that comes back is the j-th that was made, and it is of one
     -- submission: it bears that one's ID, and it completed a poll that stands and gave that one's chain
-    pub own-completion : (j : ℕ) → j < length (reclaims h) → (p : ℕ) × (p < length (pubs h)) × Own h j p
+    pub own-completion : (j : ℕ) → j < length (reclaims h) → (p : ℕ) × (p < length (pubs h)) × ItsOwn h j p
     own-completion j b =
         let d = at-of (reclaims h) j b in
         let f = at-of (finished h) j (finished-low j (at-low (comps h) j (d .0) (made-at j (d .0) (d .1)))) in
-        let p = at-member (lives h) (f .0) (stands-at j (f .0) (f .1)) in
+        let p = at-member (standing h) (f .0) (stands-at j (f .0) (f .1)) in
         own j (p .0) (d .0) (f .0) (d .1) (f .1) (p .1)
 
     -- "once each": two completions that came back are never of one submission
-    pub once-each : (i j p : ℕ) → Own h i p → Own h j p → i ≡ j
+    pub once-each : (i j p : ℕ) → ItsOwn h i p → ItsOwn h j p → i ≡ j
     once-each i j p a b =
-        let same : a .poll ≡ b .poll = at-same (lives h) p (a .poll) (b .poll) (a .stands) (b .stands) in
+        let same : a .poll ≡ b .poll = at-same (standing h) p (a .poll) (b .poll) (a .stands) (b .stands) in
         let few : times (a .poll .no) (nos (finished h)) ≤ 1 =
         omega (
           arith,
           s .once (a .poll .no),
-          rising-once (a .poll .no) (lives h) (l .rising),
+          rising-once (a .poll .no) (standing h) (l .rising),
           nos-append (a .poll .no) (settled h) (model h .fresh),
           ap (λ (z : List Poll). times (a .poll .no) (nos z)) (l .stand),
         ) in
@@ -230,11 +230,11 @@ module _ {C : Type 0} where
     outs-once y = rw (l .out-is) (k .apart y)
 
   -- each return is of a submission that was published, polled and completed before
-  pub own-before : (size : ℕ) (h : History C) (d : Done) → AllOk size (reclaimed d ∷ h) → (p : ℕ) × OwnBefore h d p
-  unfolding comps reclaims finished lives pubs
+  pub own-before : (size : ℕ) (h : History C) (d : Done) → AllOk size (reclaimed d ∷ h) → (p : ℕ) × ItsOwnBefore h d p
+  unfolding comps reclaims finished standing pubs
   own-before size h d o =
       let r = own-completion size (reclaimed d ∷ h) o (length (reclaims h)) (omega (arith, length-append (reclaims h) (d ∷ []))) in
-      let w : Own (reclaimed d ∷ h) (length (reclaims h)) (r .0) = r .2 in
+      let w : ItsOwn (reclaimed d ∷ h) (length (reclaims h)) (r .0) = r .2 in
       let e : w .done ≡ d = at-same (reclaims h ++ (d ∷ [])) (length (reclaims h)) (w .done) d (w .came-back) (at-seam (reclaims h) d []) in (
         r .0,
         record {
@@ -247,7 +247,7 @@ module _ {C : Type 0} where
         },
       )
 
-  -- "an ID given is the ID of no chain whose completion poll_used has not yet returned": of none that is completed and not returned,
+  -- an ID given is the ID of no chain whose completion poll_used has not yet returned: of none that is completed and not returned,
   -- of none that is held, and of none that waits
   pub fresh-id : (size : ℕ) (h : History C) (x : Item) → AllOk size (submitted x ∷ h)
       → Unlike (x .id) (items (drop (length (reclaims h)) (finished h))) × Unlike (x .id) (items (held h)) × Unlike (x .id) (waiting h)
@@ -262,7 +262,7 @@ module _ {C : Type 0} where
 
   -- of the submission whose completion comes back
   own-item : (h : History C) (d : Done) (k : Kept h (model h)) (p : ℕ) (z : Poll) (rest : List Poll) (x : Item) → k .pending ≡ z ∷ rest
-      → Own (reclaimed d ∷ h) (length (reclaims h)) p → At (pubs h) p x → z .item ≡ x
+      → ItsOwn (reclaimed d ∷ h) (length (reclaims h)) p → At (pubs h) p x → z .item ≡ x
   unfolding finished pubs
   own-item h d k p z rest x e w a =
       let n : length (reclaims h) ≡ length (k .back) = sym (length-dids (reclaims h)) ∙ ap length (sym (k .back-ids)) ∙ length-ids (k .back) in
@@ -271,7 +271,7 @@ module _ {C : Type 0} where
 
   -- "it frees exactly its chain's slots": when poll_used returns a completion, the slots that are out are fewer by those of the chain
   -- that its submission published
-  pub frees : (size : ℕ) (h : History C) (d : Done) → AllOk size (reclaimed d ∷ h) → (p : ℕ) → Own (reclaimed d ∷ h) (length (reclaims h)) p
+  pub frees : (size : ℕ) (h : History C) (d : Done) → AllOk size (reclaimed d ∷ h) → (p : ℕ) → ItsOwn (reclaimed d ∷ h) (length (reclaims h)) p
       → (x : Item) → At (pubs h) p x → slotsIn (out h) ≡ slotsIn (out (reclaimed d ∷ h)) + slotsOf (x .chain)
   unfolding out
   frees size h d o p w x a =

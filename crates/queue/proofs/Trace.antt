@@ -9,7 +9,7 @@ use native.Mathlib.Omega.{arith}
 use mathlib.Core.List.{List, [], _∷_, _++_, append-assoc, append-nil, append-cancel-left}
 use lib.ListN.{length, drop, length-append}
 use lib.Seq.{drop-at}
-use Rattle.queue.specs.History.{Item, Done, Call, Look, Event, History, Poll, items, ids, upto, after, butLast, without, times, pubs, polls, comps, reclaims, lives, held, out, promised, waiting}
+use Rattle.queue.specs.History.{Item, Done, Call, Look, Event, History, Poll, items, ids, upto, after, butLast, without, times, pubs, polls, comps, reclaims, standing, held, out, promised, waiting}
 use Rattle.queue.specs.History.{submit, poll, complete, reclaim, rollback, nextId, other, nexted, peeked, quiet, refused, astray, submitted, polled, completed, reclaimed, marked, rolled, looked}
 use Rattle.queue.specs.Promise.{Undoes, UndoesAll, RightBadNo, RightNo, RightLook, Right, Fifo}
 use Rattle.queue.specs.Sentences.{All}
@@ -26,7 +26,7 @@ module _ {C : Type 0} where
   settled [] = []
   settled (submitted x ∷ h) = settled h
   settled (polled x ∷ h) = settled h
-  settled (completed d ∷ h) = lives h
+  settled (completed d ∷ h) = standing h
   settled (reclaimed d ∷ h) = settled h
   settled (marked c ∷ h) = settled h
   settled (rolled c js ∷ h) = settled h
@@ -34,12 +34,12 @@ module _ {C : Type 0} where
 
   -- the queue's state is what the history says
   pub record Link (h : History C) (q : Queue C) : Type 0 where
-    pub published : pubs h ≡ items (lives h) ++ q .waiting
+    pub published : pubs h ≡ items (standing h) ++ q .waiting
     pub given : comps h ≡ reclaims h ++ q .done
-    pub stand : lives h ≡ settled h ++ q .fresh
+    pub stand : standing h ≡ settled h ++ q .fresh
     pub under : Under (q .since) (settled h)
-    pub live-under : Under (q .polls) (lives h)
-    pub rising : Rising (lives h)
+    pub live-under : Under (q .polls) (standing h)
+    pub rising : Rising (standing h)
     pub held-is : held h ≡ q .old ++ q .fresh
     pub out-is : out h ≡ q .out
     pub promised-is : promised h ≡ q .promised
@@ -49,7 +49,7 @@ module _ {C : Type 0} where
     pub marks-ok : All (MarkOk (q .comps) (q .since)) (q .marks)
 
   link-start : Link [] start
-  unfolding pubs polls comps reclaims lives held out promised settled
+  unfolding pubs polls comps reclaims standing held out promised settled
   link-start =
       record {
         published = refl;
@@ -95,10 +95,10 @@ module _ {C : Type 0} where
   promised-look h q (astray n) e = e
 
   link-step : (size : ℕ) (h : History C) (q : Queue C) (e : Event C) → Link h q → Ok size q e → Link (e ∷ h) (next q e)
-  unfolding pubs polls comps reclaims lives held out promised settled next
+  unfolding pubs polls comps reclaims standing held out promised settled next
   link-step size h q (submitted x) l o =
       record {
-        published = ap (λ (s : List Item). s ++ (x ∷ [])) (l .published) ∙ append-assoc (items (lives h)) (q .waiting) (x ∷ []);
+        published = ap (λ (s : List Item). s ++ (x ∷ [])) (l .published) ∙ append-assoc (items (standing h)) (q .waiting) (x ∷ []);
         given = l .given;
         stand = l .stand;
         under = l .under;
@@ -115,13 +115,13 @@ module _ {C : Type 0} where
   link-step size h q (polled x) l o =
       let p : Poll = record { no = suc (polls h); item = x } in
       record {
-        published = pub-poll (pubs h) (lives h) (q .waiting) (o .0) p (l .published) (o .1);
+        published = pub-poll (pubs h) (standing h) (q .waiting) (o .0) p (l .published) (o .1);
         given = l .given;
-        stand = snoc-is (lives h) (settled h) (q .fresh) (polls h) (q .polls) x (l .polls-is) (l .stand);
+        stand = snoc-is (standing h) (settled h) (q .fresh) (polls h) (q .polls) x (l .polls-is) (l .stand);
         under = l .under;
         live-under =
-            all-append (λ (z : Poll). z .no ≤ suc (q .polls)) (lives h) (p ∷ []) (under-mono (omega arith) (lives h) (l .live-under)) (omega (arith, l .polls-is), tt);
-        rising = rising-snoc (q .polls) (lives h) p (l .live-under) (omega (arith, l .polls-is)) (l .rising);
+            all-append (λ (z : Poll). z .no ≤ suc (q .polls)) (standing h) (p ∷ []) (under-mono (omega arith) (standing h) (l .live-under)) (omega (arith, l .polls-is), tt);
+        rising = rising-snoc (q .polls) (standing h) p (l .live-under) (omega (arith, l .polls-is)) (l .rising);
         held-is = snoc-is (held h) (q .old) (q .fresh) (polls h) (q .polls) x (l .polls-is) (l .held-is);
         out-is = l .out-is;
         promised-is = l .promised-is;
@@ -134,7 +134,7 @@ module _ {C : Type 0} where
       record {
         published = l .published;
         given = ap (λ (s : List Done). s ++ (d ∷ [])) (l .given) ∙ append-assoc (reclaims h) (q .done) (d ∷ []);
-        stand = sym (append-nil (lives h));
+        stand = sym (append-nil (standing h));
         under = l .live-under;
         live-under = l .live-under;
         rising = l .rising;
@@ -183,15 +183,15 @@ module _ {C : Type 0} where
       }
   link-step size h q (rolled c js) l o =
       let fit : length js ≤ length (q .fresh) = named-fit (o .mark .polls) (q .fresh) js (o .names) in
-      let cut : butLast (length js) (lives h) ≡ settled h ++ butLast (length js) (q .fresh) =
+      let cut : butLast (length js) (standing h) ≡ settled h ++ butLast (length js) (q .fresh) =
       ap (butLast (length js)) (l .stand) ∙ but-last-append (length js) (settled h) (q .fresh) fit in
       record {
-        published = rw cut (pub-roll (pubs h) (lives h) (settled h) (q .fresh) (q .waiting) (length js) (l .published) (l .stand));
+        published = rw cut (pub-roll (pubs h) (standing h) (settled h) (q .fresh) (q .waiting) (length js) (l .published) (l .stand));
         given = l .given;
         stand = cut;
         under = l .under;
-        live-under = all-but-last (λ (p : Poll). p .no ≤ q .polls) (length js) (lives h) (l .live-under);
-        rising = rising-take (length (lives h) - length js) (lives h) (l .rising);
+        live-under = all-but-last (λ (p : Poll). p .no ≤ q .polls) (length js) (standing h) (l .live-under);
+        rising = rising-take (length (standing h) - length js) (standing h) (l .rising);
         held-is = ap (butLast (length js)) (l .held-is) ∙ but-last-append (length js) (q .old) (q .fresh) fit;
         out-is = l .out-is;
         promised-is = l .promised-is;
@@ -344,18 +344,18 @@ module _ {C : Type 0} where
           all-of (MarkOk (model h .comps) (model h .since)) (markOf (model before) c) (model h .marks) (mark-in h since before c took) (link size h ok .marks-ok) .1 same in
           under-mono (rw at-polls low) (settled h) (link size h ok .under)
 
-      pub same-after : after (polls before) (lives h) ≡ after (model before .polls) (model h .fresh)
+      pub same-after : after (polls before) (standing h) ≡ after (model before .polls) (model h .fresh)
       same-after =
           ap (after (polls before)) (link size h ok .stand) ∙ after-under (polls before) (settled h) (model h .fresh) settled-under
           ∙ ap (λ (k : ℕ). after k (model h .fresh)) at-polls
 
-      same-upto : upto (polls before) (lives h) ≡ settled h ++ upto (model before .polls) (model h .fresh)
+      same-upto : upto (polls before) (standing h) ≡ settled h ++ upto (model before .polls) (model h .fresh)
       same-upto =
           ap (upto (polls before)) (link size h ok .stand) ∙ upto-under (polls before) (settled h) (model h .fresh) settled-under
           ∙ ap (λ (k : ℕ). settled h ++ upto k (model h .fresh)) at-polls
 
-      lives-before : lives before ≡ settled h ++ model before .fresh
-      lives-before = link size before ok-before .stand ∙ ap (λ (l : List Poll). l ++ model before .fresh) (sym settled-then)
+      standing-before : standing before ≡ settled h ++ model before .fresh
+      standing-before = link size before ok-before .stand ∙ ap (λ (l : List Poll). l ++ model before .fresh) (sym settled-then)
 
   module _ (size : ℕ) (h : History C) (ok : AllOk size h) (c : C) (js : List ℕ) where
     pub undo-of : Undoes h c js → Undo (model h) c js
@@ -378,7 +378,7 @@ module _ {C : Type 0} where
           undo = undo-of u;
           stand =
               append-cancel-left (settled h) (upto (model (u .before) .polls) (model h .fresh)) (model (u .before) .fresh)
-              (sym (same-upto size h ok c (u .since) (u .before) (u .took) same) ∙ a .stand ∙ lives-before size h ok c (u .since) (u .before) (u .took) same);
+              (sym (same-upto size h ok c (u .since) (u .before) (u .took) same) ∙ a .stand ∙ standing-before size h ok c (u .since) (u .before) (u .took) same);
         }
 
     -- the mark of an `Undo`, as the history has it
@@ -424,7 +424,7 @@ module _ {C : Type 0} where
           stand =
               same-upto size h ok c (b .since) (b .before) (b .took) (back-same u)
               ∙ ap (λ (m : Mark C). settled h ++ upto (m .polls) (model h .fresh)) (sym (b .is)) ∙ ap (λ (l : List Poll). settled h ++ l) (a .stand)
-              ∙ ap (λ (m : Mark C). settled h ++ m .stood) (b .is) ∙ sym (lives-before size h ok c (b .since) (b .before) (b .took) (back-same u));
+              ∙ ap (λ (m : Mark C). settled h ++ m .stood) (b .is) ∙ sym (standing-before size h ok c (b .since) (b .before) (b .took) (back-same u));
         }
 
   -- ---- the promise
@@ -434,10 +434,10 @@ module _ {C : Type 0} where
     l = link size h ok
 
     pub waiting-is : waiting h ≡ model h .waiting
-    waiting-is = ap (λ (x : List Item). drop (length (lives h)) x) (l .published) ∙ drop-at (items (lives h)) (model h .waiting) (length (lives h)) (length-items (lives h))
+    waiting-is = ap (λ (x : List Item). drop (length (standing h)) x) (l .published) ∙ drop-at (items (standing h)) (model h .waiting) (length (standing h)) (length-items (standing h))
 
-    none-waits : model h .waiting ≡ [] → pubs h ≡ items (lives h)
-    none-waits e = l .published ∙ ap (λ (w : List Item). items (lives h) ++ w) e ∙ append-nil (items (lives h))
+    none-waits : model h .waiting ≡ [] → pubs h ≡ items (standing h)
+    none-waits e = l .published ∙ ap (λ (w : List Item). items (standing h) ++ w) e ∙ append-nil (items (standing h))
 
     right-no : (c : Call C) (n : ℕ) → OkNo size (model h) c n → RightNo size h c n
     right-no (submit c) n o = rw (l .out-is) o
@@ -467,7 +467,7 @@ module _ {C : Type 0} where
 
     right : (e : Event C) → Ok size (model h) e → Right size h e
     right (submitted x) o = rw (l .out-is, l .promised-is) o
-    right (polled x) o = (o .0, l .published ∙ ap (λ (w : List Item). items (lives h) ++ w) (o .1))
+    right (polled x) o = (o .0, l .published ∙ ap (λ (w : List Item). items (standing h) ++ w) (o .1))
     right (completed d) o = rw (l .held-is) o
     right (reclaimed d) o = (o .0, l .given ∙ ap (λ (w : List Done). reclaims h ++ w) (o .1))
     right (marked c) o = tt
@@ -486,15 +486,15 @@ module _ {C : Type 0} where
     k = link size h ok
 
     -- what waits, and what is done, by what comes after those polled and those returned
-    waits : (w : List Item) → pubs h ≡ items (lives h) ++ w → model h .waiting ≡ w
-    waits w e = append-cancel-left (items (lives h)) (model h .waiting) w (sym (k .published) ∙ e)
+    waits : (w : List Item) → pubs h ≡ items (standing h) ++ w → model h .waiting ≡ w
+    waits w e = append-cancel-left (items (standing h)) (model h .waiting) w (sym (k .published) ∙ e)
 
     dones : (w : List Done) → comps h ≡ reclaims h ++ w → model h .done ≡ w
     dones w e = append-cancel-left (reclaims h) (model h .done) w (sym (k .given) ∙ e)
 
     ok-no : (c : Call C) (n : ℕ) → RightNo size h c n → OkNo size (model h) c n
     ok-no (submit c) n r = rw (← k .out-is) r
-    ok-no poll n r = (r .0, waits [] (r .1 ∙ sym (append-nil (items (lives h)))))
+    ok-no poll n r = (r .0, waits [] (r .1 ∙ sym (append-nil (items (standing h)))))
     ok-no (complete d) n r = (r .0, rw (← k .held-is) (r .1))
     ok-no reclaim n r = (r .0, dones [] (r .1 ∙ sym (append-nil (reclaims h))))
     ok-no (rollback c js) n r = (r .0, λ a. r .1 (undoes-all-of size h ok c js a))

@@ -5,7 +5,7 @@ use Prim.Native.Nat.{ℕ, _≤_}
 use mathlib.Core.List.{List, _∷_, _++_, append-assoc}
 use lib.ListN.{length, drop}
 use lib.Seq.{drop-at}
-use Rattle.queue.specs.History.{Item, History, Poll, items, ids, upto, after, times, pubs, polls, lives, held, waiting}
+use Rattle.queue.specs.History.{Item, History, Poll, items, ids, upto, after, times, pubs, polls, standing, held, waiting}
 use Rattle.queue.specs.History.{rolled}
 use Rattle.queue.specs.Promise.{Undoes}
 use Rattle.queue.proofs.Model.{Member, model, AllOk}
@@ -15,9 +15,9 @@ use Rattle.queue.proofs.Kept.{served}
 
 module _ {C : Type 0} (h : History C) (c : C) (js : List ℕ) (u : Undoes h c js) where
   -- "undoing every poll since": the polls that stand are those up to the checkpoint
-  pub undone : lives (rolled c js ∷ h) ≡ upto (polls (u .before)) (lives h)
-  unfolding lives
-  undone = but-last-upto (polls (u .before)) (lives h) js (u .names)
+  pub undone : standing (rolled c js ∷ h) ≡ upto (polls (u .before)) (standing h)
+  unfolding standing
+  undone = but-last-upto (polls (u .before)) (standing h) js (u .names)
 
   module _ (size : ℕ) (ok : AllOk size h) where
     same : model (u .before) .comps ≡ model h .comps
@@ -30,7 +30,7 @@ module _ {C : Type 0} (h : History C) (c : C) (js : List ℕ) (u : Undoes h c js
         (λ p m. all-of (λ (r : Poll). r .no ≤ polls (u .before)) p (settled h) m (settled-under size h ok c (u .since) (u .before) (u .took) same)) (model h .old)
         (served size h ok .old-in)
 
-    held-after : after (polls (u .before)) (held h) ≡ after (polls (u .before)) (lives h)
+    held-after : after (polls (u .before)) (held h) ≡ after (polls (u .before)) (standing h)
     held-after =
         ap (after (polls (u .before))) (link size h ok .held-is) ∙ after-under (polls (u .before)) (model h .old) (model h .fresh) old-under
         ∙ sym (after-under (polls (u .before)) (settled h) (model h .fresh) (settled-under size h ok c (u .since) (u .before) (u .took) same))
@@ -42,14 +42,14 @@ module _ {C : Type 0} (h : History C) (c : C) (js : List ℕ) (u : Undoes h c js
     undone-held = but-last-upto (polls (u .before)) (held h) js (λ y. u .names y ∙ ap (λ (l : List Poll). times y (ids l)) (sym held-after))
 
     -- the chains of the polls undone wait again, the oldest first, before those that waited
-    pub wait-again : waiting (rolled c js ∷ h) ≡ items (after (polls (u .before)) (lives h)) ++ waiting h
+    pub wait-again : waiting (rolled c js ∷ h) ≡ items (after (polls (u .before)) (standing h)) ++ waiting h
     unfolding pubs
     wait-again =
-        let whole : pubs h ≡ items (upto (polls (u .before)) (lives h)) ++ (items (after (polls (u .before)) (lives h)) ++ model h .waiting) =
-        link size h ok .published ∙ ap (λ (l : List Poll). items l ++ model h .waiting) (sym (upto-after (polls (u .before)) (lives h)))
-        ∙ ap (λ (l : List Item). l ++ model h .waiting) (items-append (upto (polls (u .before)) (lives h)) (after (polls (u .before)) (lives h)))
-        ∙ append-assoc (items (upto (polls (u .before)) (lives h))) (items (after (polls (u .before)) (lives h))) (model h .waiting) in
-        ap (λ (l : List Poll). drop (length l) (pubs h)) undone ∙ ap (λ (l : List Item). drop (length (upto (polls (u .before)) (lives h))) l) whole
-        ∙ drop-at (items (upto (polls (u .before)) (lives h))) (items (after (polls (u .before)) (lives h)) ++ model h .waiting)
-        (length (upto (polls (u .before)) (lives h))) (length-items (upto (polls (u .before)) (lives h)))
-        ∙ ap (λ (l : List Item). items (after (polls (u .before)) (lives h)) ++ l) (sym (waiting-is size h ok))
+        let whole : pubs h ≡ items (upto (polls (u .before)) (standing h)) ++ (items (after (polls (u .before)) (standing h)) ++ model h .waiting) =
+        link size h ok .published ∙ ap (λ (l : List Poll). items l ++ model h .waiting) (sym (upto-after (polls (u .before)) (standing h)))
+        ∙ ap (λ (l : List Item). l ++ model h .waiting) (items-append (upto (polls (u .before)) (standing h)) (after (polls (u .before)) (standing h)))
+        ∙ append-assoc (items (upto (polls (u .before)) (standing h))) (items (after (polls (u .before)) (standing h))) (model h .waiting) in
+        ap (λ (l : List Poll). drop (length l) (pubs h)) undone ∙ ap (λ (l : List Item). drop (length (upto (polls (u .before)) (standing h))) l) whole
+        ∙ drop-at (items (upto (polls (u .before)) (standing h))) (items (after (polls (u .before)) (standing h)) ++ model h .waiting)
+        (length (upto (polls (u .before)) (standing h))) (length-items (upto (polls (u .before)) (standing h)))
+        ∙ ap (λ (l : List Item). items (after (polls (u .before)) (standing h)) ++ l) (sym (waiting-is size h ok))

@@ -179,15 +179,15 @@ module _ {C : Type 0} where
 
   -- the polls that stand: those that gave a chain and were not rolled back. A rollback undoes as many as its list names, the latest: where it
   -- meets the premise these are the polls since its checkpoint (queue/proofs/Undone.antt).
-  unfoldable pub lives : History C → List Poll
-  lives [] = []
-  lives (submitted x ∷ h) = lives h
-  lives (polled x ∷ h) = lives h ++ (record { no = suc (polls h); item = x } ∷ [])
-  lives (completed d ∷ h) = lives h
-  lives (reclaimed d ∷ h) = lives h
-  lives (marked c ∷ h) = lives h
-  lives (rolled c js ∷ h) = butLast (length js) (lives h)
-  lives (looked l ∷ h) = lives h
+  unfoldable pub standing : History C → List Poll
+  standing [] = []
+  standing (submitted x ∷ h) = standing h
+  standing (polled x ∷ h) = standing h ++ (record { no = suc (polls h); item = x } ∷ [])
+  standing (completed d ∷ h) = standing h
+  standing (reclaimed d ∷ h) = standing h
+  standing (marked c ∷ h) = standing h
+  standing (rolled c js ∷ h) = butLast (length js) (standing h)
+  standing (looked l ∷ h) = standing h
 
   -- the polls that stand and are not completed: what the consumer holds
   unfoldable pub held : History C → List Poll
@@ -239,4 +239,4 @@ module _ {C : Type 0} where
 
   -- the chains that wait: published, and with no poll that stands
   abbrev pub waiting : History C → List Item
-  waiting h = drop (length (lives h)) (pubs h)
+  waiting h = drop (length (standing h)) (pubs h)

@@ -6,7 +6,7 @@ use mathlib.Core.List.{List, [], _∷_, _++_}
 use mathlib.Core.Bool.{Bool, true, false, cond, _||_}
 use lib.Dec.{eqb}
 use lib.ListN.{length}
-use Rattle.queue.specs.History.{Item, Done, Call, Event, History, Poll, butLast, times, pubs, comps, reclaims, lives, finished}
+use Rattle.queue.specs.History.{Item, Done, Call, Event, History, Poll, butLast, times, pubs, comps, reclaims, standing, finished}
 use Rattle.queue.specs.History.{submit, poll, complete, reclaim, rollback, nextId, other, nexted, peeked, quiet, refused, astray, submitted, polled, completed, reclaimed, marked, rolled, looked}
 
 -- of each of a list
@@ -141,7 +141,7 @@ module _ {C : Type 0} where
   Literally h (looked (astray n)) = Unit
 
   -- "completions meet their own submissions": the j-th completion that poll_used returned is of the p-th submission, both counted from 0
-  pub record Own (h : History C) (j p : ℕ) : Type 0 where
+  pub record ItsOwn (h : History C) (j p : ℕ) : Type 0 where
     pub done : Done
     pub poll : Poll
     -- it is the j-th that the consumer made
@@ -149,16 +149,16 @@ module _ {C : Type 0} where
     pub made : At (comps h) j done
     -- it completed this poll, which stands and gave the very chain that submission p published, under the ID that it got
     pub completed : At (finished h) j poll
-    pub stands : At (lives h) p poll
+    pub stands : At (standing h) p poll
     pub published : At (pubs h) p (poll .item)
     pub own-id : poll .item .id ≡ done .id
 
   -- the same, seen as poll_used returns this completion after this history: its submission, the poll of it that stands and its completion
   -- were there before
-  pub record OwnBefore (h : History C) (d : Done) (p : ℕ) : Type 0 where
+  pub record ItsOwnBefore (h : History C) (d : Done) (p : ℕ) : Type 0 where
     pub poll : Poll
     pub made : At (comps h) (length (reclaims h)) d
     pub completed : At (finished h) (length (reclaims h)) poll
-    pub stands : At (lives h) p poll
+    pub stands : At (standing h) p poll
     pub published : At (pubs h) p (poll .item)
     pub own-id : poll .item .id ≡ d .id

@@ -1,30 +1,24 @@
 -- Each public contract of the crate determines what its function answers and leaves.
 -- Assumes nothing.
 use Prim.Native.Nat.{ℕ}
-use mathlib.Core.Path.{_≡_, ap}
+use mathlib.Core.Path.{_≡_, sym, ap}
 use mathlib.Core.List.{List}
-use native.Mathlib.Omega.{arith}
-use lib.ListN.{getD}
 use denote.Ref.{now}
-use Rattle.base.specs.Answer.{Answer}
 use Rattle.base.specs.Determined.{Determined, both}
 use Rattle.base.proofs.Determine.{by-equation, by-answer}
-use Rattle.base.proofs.Refusals.{number-low, number-same}
+use Rattle.base.proofs.Refusals.{value, not-done, refused-same}
 use Rattle.undo.specs.declared.Summed.{Summed}
 use Rattle.undo.specs.declared.Summed.the-variants.{Slots, Refused}
 use Rattle.undo.specs.Undo.{Outcome, outcome, answerOf}
 use Rattle.undo.proofs.sum.Reads as sum
 use Rattle.undo.proofs.clear.Reads as clear
 
-abbrev number : Answer → ℕ
-number a = a .number
-
 -- a sum is told by its answer
 pub summed-same : (x y : Summed) → answerOf x ≡ answerOf y → x ≡ y
-summed-same (Slots m) (Slots n) h = ap Slots (ap (λ (a : Answer). getD (a .values) 0 0) h)
-summed-same (Slots m) (Refused e) h = absurd (omega (arith, ap number h, number-low e))
-summed-same (Refused e) (Slots n) h = absurd (omega (arith, ap number h, number-low e))
-summed-same (Refused e) (Refused f) h = ap Refused (number-same e f (ap number h))
+summed-same (Slots m) (Slots n) h = ap Slots (ap (value 0) h)
+summed-same (Slots m) (Refused e) h = not-done e _ h
+summed-same (Refused e) (Slots n) h = not-done e _ (sym h)
+summed-same (Refused e) (Refused f) h = ap Refused (refused-same e f h)
 
 -- what is seen of it: its result, and the table that it leaves
 abbrev pub summed-seen : Summed × List ℕ → Outcome

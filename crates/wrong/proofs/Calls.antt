@@ -11,7 +11,7 @@ use Rattle.queue.specs.Machine.{historyOf}
 use Rattle.packed.specs.Calls.{oneOf, pollUsed}
 use Rattle.packed.specs.Machine.{Given}
 use Rattle.history.proofs.Computing as real-calls
-use Rattle.history.proofs.Ends.{zeros, two, world-two, plain, nothing-asked, does, chain, submits, completes, polls-for}
+use Rattle.history.proofs.Ends.{two, world-two, plain, nothing-asked, does, chain, submits, completes, polls-for}
 use Rattle.wrong.proofs.Ring.{Ring, real, machineOf, Demand, real-meets, ownSaysBy, ownLeavesBy, saysBy, leavesBy}
 
 -- ---- the chains: two of one element, and one that has both elements and fills the ring, the second of them writable
@@ -68,7 +68,7 @@ pub refuted : (r : Ring) → Broken r → Demand r → ⊥
 refuted r k d =
     k .wrong
     (subst (Fifo 2) (k .computed)
-    (d 2 0 32 36 (zeros 40) (zeros 2) (zeros 2) (zeros 2) two (k .calls) (subst (Each (Asked Undoes)) (sym (k .computed)) (k .meets))) .1)
+    (d two (k .calls) (subst (Each (Asked Undoes)) (sym (k .computed)) (k .meets))) .1)
 
 -- a call c after the calls cs. No rollback is among them and no call given what is not its end's own, so the premise asks nothing; and the
 -- real ring answers the calls cs alike, so they were right
@@ -85,6 +85,6 @@ broken r c cs h e t k same w =
       meets = m;
       right-before =
           subst (Fifo 2) same
-          (real-meets 2 0 32 36 (zeros 40) (zeros 2) (zeros 2) (zeros 2) two cs (subst (Each (Asked Undoes)) (sym same) (m .0)));
+          (real-meets two cs (subst (Each (Asked Undoes)) (sym same) (m .0)));
       wrong = w;
     }

@@ -15,7 +15,7 @@ use Rattle.desc.specs.Desc.{descriptor}
 use Rattle.ring.specs.Slots.{slotOf, slotPut}
 use Rattle.producer.specs.Outcome.{outcome}
 use Rattle.consumer.specs.declared.Checkpoint.{Checkpoint}
-use Rattle.queue.specs.History.{Chain, Item, Event, History, slotsIn, pubs, lives}
+use Rattle.queue.specs.History.{Chain, Item, Event, History, slotsIn, pubs, standing}
 use Rattle.queue.specs.History as said
 use Rattle.queue.specs.Promise.{Right}
 use Rattle.packed.specs.Machine.{World}
@@ -64,7 +64,7 @@ abbrev longer : Event Checkpoint
 longer = said.polled (item 1 (chain (4096 ∷ 0 ∷ []) (16 ∷ 0 ∷ []) 2))
 
 not-its-elements : Right 2 waits longer → ⊥
-unfolding pubs lives
+unfolding pubs standing
 not-its-elements f = omega (arith, ap (λ (l : List Item). slotsIn (take 1 l)) (f .1))
 
 pub longer-broken : Broken next-on-last

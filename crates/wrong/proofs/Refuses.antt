@@ -11,7 +11,7 @@ use Rattle.base.specs.Answer.{refused}
 use Rattle.producer.specs.Outcome.{outcome}
 use Rattle.consumer.specs.declared.Checkpoint.{Checkpoint}
 use Rattle.consumer.specs.Poll.{taken}
-use Rattle.queue.specs.History.{Item, Done, Event, History, pubs, comps, reclaims, lives}
+use Rattle.queue.specs.History.{Item, Done, Event, History, pubs, comps, reclaims, standing}
 use Rattle.queue.specs.History as said
 use Rattle.queue.specs.Promise.{Right}
 use Rattle.history.proofs.Ends.{item, done}
@@ -20,7 +20,7 @@ use Rattle.wrong.proofs.Calls.{a, submit-a, poll, complete-1, reclaim, 
 
 -- THE WRONG RING: every poll is answered with n, and nothing changes
 abbrev pub refuses : ℕ → Ring
-refuses n = withPoll (λ w outs louts. taken (refused n) (w .cons) (w .held) outs louts)
+refuses n = withPoll (λ w outs louts. taken (refused n) (w .cons) (w .heldCounts) outs louts)
 
 -- a chain is submitted, and the poll, by an end given its own and good outputs, is refused while it waits
 abbrev waits : History Checkpoint
@@ -30,7 +30,7 @@ abbrev not-given : ℕ → Event Checkpoint
 not-given n = said.looked (said.refused said.poll true n)
 
 one-waits : (n : ℕ) → Right 2 waits (not-given n) → ⊥
-unfolding pubs lives
+unfolding pubs standing
 one-waits n f = omega (arith, ap (λ (l : List Item). length l) (f .1))
 
 pub blocks-broken : Broken (refuses 3)

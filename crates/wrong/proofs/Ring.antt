@@ -16,7 +16,7 @@ use Rattle.queue.specs.Promise.{Undoes, Asked, Each, Fifo}
 use Rattle.queue.specs.Machine.{Machine, worldOf, historyOf}
 use Rattle.packed.specs.Calls.{Own, Call, oneOf}
 use Rattle.packed.specs.Calls.{submitAvailable, submitAvailableWithNotify, submitOne, submitOneWithNotify, pollUsed, nextId, producerAsked, shouldNotifySince, turnUsed, enableUsedDesc, enableUsedForNext, pollAvailable, submitUsed, submitUsedWithNotify, peekAvailable, pollCheckpoint, rollbackPolls, consumerAsked, turnAvail, enableAvailDesc, enableAvailForNext, own, foreign}
-use Rattle.packed.specs.Machine.{World, submitsOf, saysSubmitted, saysReclaimed, saysPolled, saysCompleted, afterMade, afterTaken, afterCompleted, ownSays, ownLeaves, astrayIn, asked, numberOf, says, leaves}
+use Rattle.packed.specs.Machine.{World, submitsOf, saysSubmitted, saysReclaimed, saysPolled, saysCompleted, afterMade, afterTaken, afterCompleted, ownSays, ownLeaves, astrayIn, callOf, numberOf, says, leaves}
 use Rattle.packed.specs.Opening.{Opening, openedWorld}
 use Rattle.packed.specs.Machine.{Given, packed}
 use Rattle.packed.proofs.Packed.{demand-3}
@@ -34,8 +34,8 @@ real =
     record {
       submit = submitsOf;
       reclaim = λ w. usedPoll.pollOf (w .prod) (w .ring) (w .ids) (w .counts);
-      poll = λ w outs louts. pollOf (w .cons) (w .ring) (w .held) outs louts;
-      complete = λ w id len. completeOf (w .cons) (w .ring) (w .held) id len;
+      poll = λ w outs louts. pollOf (w .cons) (w .ring) (w .heldCounts) outs louts;
+      complete = λ w id len. completeOf (w .cons) (w .ring) (w .heldCounts) id len;
     }
 
 -- the real ring with one of them changed
@@ -99,7 +99,7 @@ module _ (r : Ring) where
 
   unfoldable pub saysBy : World → Call → Event Checkpoint
   saysBy w (own c) = ownSaysBy w c
-  saysBy w (foreign f) = said.looked (said.astray (numberOf (ownSaysBy (astrayIn w f) (asked f))))
+  saysBy w (foreign f) = said.looked (said.astray (numberOf (ownSaysBy (astrayIn w f) (callOf f))))
 
   unfoldable pub leavesBy : World → Call → World
   leavesBy w (own c) = ownLeavesBy w c
@@ -108,13 +108,11 @@ module _ (r : Ring) where
   abbrev pub machineOf : Machine Checkpoint
   machineOf = record { World = World; Call = Given; say = λ w c. saysBy w (c .call); go = λ w c. leavesBy w (c .call) }
 
-  -- DEMAND 3 of this ring: the statement of `Packed.demand-3`, of this machine
+  -- DEMAND 3 of this ring: the statement of `Packed.demand-3`, of this machine, with the three parts of a run spelled out
   abbrev pub Demand : Type 0
   Demand =
-      (size table driver device : ℕ) (ring ids counts held : List ℕ) → Opening size table driver device ring ids counts held
-      → (cs : List Given)
-      → Each (Asked Undoes) (historyOf machineOf (openedWorld size table driver device ring ids counts held) cs)
-      → Fifo size (historyOf machineOf (openedWorld size table driver device ring ids counts held) cs)
+      (o : Opening) (cs : List Given) → Each (Asked Undoes) (historyOf machineOf (openedWorld o) cs)
+      → Fifo (o .size) (historyOf machineOf (openedWorld o) cs)
 
 -- ---- with the real four it is the real machine, and the demand is met: what breaks it below is the one change
 
@@ -146,7 +144,7 @@ call-same : (w : World) (c : Call) → (saysBy real w c ≡ says w c) × (leaves
 unfolding saysBy leavesBy says leaves
 call-same w (own c) = own-same w c
 call-same w (foreign f) = (
-  ap (λ (e : Event Checkpoint). said.looked (said.astray (numberOf e))) (own-same (astrayIn w f) (asked f) .0),
+  ap (λ (e : Event Checkpoint). said.looked (said.astray (numberOf e))) (own-same (astrayIn w f) (callOf f) .0),
   refl,
 )
 
@@ -166,7 +164,6 @@ module _ (w : World) where
       ∙ ap (λ (h : History Checkpoint). says (worldOf packed w cs) (c .call) ∷ h) (history-same cs)
 
 pub real-meets : Demand real
-real-meets size table driver device ring ids counts held o cs a =
-    let w = openedWorld size table driver device ring ids counts held in
-    subst (Fifo size) (sym (history-same w cs))
-    (demand-3 size table driver device ring ids counts held o cs (subst (Each (Asked Undoes)) (history-same w cs) a))
+real-meets o cs a =
+    subst (Fifo (o .size)) (sym (history-same (openedWorld o) cs))
+    (demand-3 (record { opening = o; calls = cs; premise = subst (Each (Asked Undoes)) (history-same (openedWorld o) cs) a }))

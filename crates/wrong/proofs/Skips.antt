@@ -8,7 +8,7 @@ use Rattle.cursor.specs.declared.RingCursor.{RingCursor}
 use Rattle.consumer.specs.declared.RingConsumer.{RingConsumer}
 use Rattle.consumer.specs.declared.Checkpoint.{Checkpoint}
 use Rattle.consumer.specs.Poll.{pollOf}
-use Rattle.queue.specs.History.{Item, Event, History, pubs, lives}
+use Rattle.queue.specs.History.{Item, Event, History, pubs, standing}
 use Rattle.queue.specs.History as said
 use Rattle.queue.specs.Promise.{Right}
 use Rattle.history.proofs.Ends.{item}
@@ -22,7 +22,7 @@ movedTo p c = record { layout = p .layout; avail = c; used = p .used; inflight =
 -- THE WRONG RING: a poll is the real one from behind the chain that the real one would give
 abbrev pub skips : Ring
 skips =
-    withPoll (λ w outs louts. pollOf (movedTo (w .cons) (real .poll w outs louts .end .avail)) (w .ring) (w .held) outs louts)
+    withPoll (λ w outs louts. pollOf (movedTo (w .cons) (real .poll w outs louts .end .avail)) (w .ring) (w .heldCounts) outs louts)
 
 -- two chains are submitted, and the poll gives the second
 abbrev two-wait : History Checkpoint
@@ -37,7 +37,7 @@ firstId [] = 0
 firstId (x ∷ l) = x .id
 
 not-oldest : Right 2 two-wait second → ⊥
-unfolding pubs lives
+unfolding pubs standing
 not-oldest f = omega (arith, ap (λ (l : List Item). firstId l) (f .1))
 
 pub skips-broken : Broken skips

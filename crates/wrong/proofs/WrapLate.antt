@@ -14,7 +14,7 @@ use Rattle.consumer.specs.declared.RingConsumer.{RingConsumer}
 use Rattle.consumer.specs.declared.Checkpoint.{Checkpoint}
 use Rattle.consumer.specs.Outcome as completion
 use Rattle.consumer.specs.Poll.{taken}
-use Rattle.queue.specs.History.{Item, Event, History, pubs, lives}
+use Rattle.queue.specs.History.{Item, Event, History, pubs, standing}
 use Rattle.queue.specs.History as said
 use Rattle.queue.specs.Promise.{Right}
 use Rattle.history.proofs.Ends.{item, done}
@@ -64,7 +64,7 @@ abbrev blocked : Event Checkpoint
 blocked = said.looked (said.refused said.poll true 3)
 
 one-waits : Right 2 second-round blocked → ⊥
-unfolding pubs lives
+unfolding pubs standing
 one-waits f = omega (arith, ap (λ (l : List Item). length l) (f .1))
 
 pub late-submit-broken : Broken late-submit

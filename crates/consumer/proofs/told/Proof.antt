@@ -1,29 +1,16 @@
 -- `consumer::told` meets its contract: by the case of the completion's answer.
 -- Assumes nothing.
 use borrow.Author.Needs.{needs}
-use native.Mathlib.Omega.{arith}
-use Prim.Native.Nat.{ℕ}
-use mathlib.Core.Path.{_≡_, sym, ap, _∙_}
-use mathlib.Core.List.{List, [], _∷_}
+use mathlib.Core.Path.{sym, ap, _∙_}
+use mathlib.Core.List.{[], _∷_}
 use mathlib.Core.Bool.{Bool}
-use borrow.Author.Tests.{ne-eqb}
-use Rattle.base.specs.declared.RingError.{RingError}
-use Rattle.base.specs.Refusals.{numberOf}
-use Rattle.base.specs.Answer.{done, refused, bit}
-use Rattle.base.proofs.Refusals.{number-low}
-use Rattle.cursor.specs.declared.RingCursor.{RingCursor}
-use Rattle.consumer.specs.declared.RingConsumer.{RingConsumer}
+use Rattle.base.specs.Answer.{Answer, done, bit}
+use Rattle.base.proofs.Refusals.{valued-refused}
 use Rattle.consumer.specs.declared.Answered.{Answered}
 use Rattle.consumer.specs.Outcome.{outcome, answerOf, recordOf}
 use Rattle.consumer.specs.Complete.{tellOf}
 use Rattle.consumer.proofs.told.Statement.{statement}
 use Rattle.consumer.proofs.told.Tie as tie
-
--- a refusal is handed on as it is
-kept : (old : RingCursor) (e : RingError) (p : RingConsumer) (l : List ℕ) →
-    outcome (refused (numberOf e)) p l [] ≡ tellOf old (outcome (refused (numberOf e)) p l [])
-unfolding tellOf
-kept old e p l = simp (ne-eqb (numberOf e) 0 (λ z. omega (arith, number-low e)))
 
 enum-known-answer : tie.Need-enum-known-answer
 enum-known-answer c = search needs
@@ -44,11 +31,12 @@ returns c =
     ∙ ap (λ (x : Answered). tellOf (a .old) (outcome (answerOf x) (recordOf x) l [])) (sym (g .1))
 
 returns-2 : tie.Need-returns-2
+unfolding tellOf
 returns-2 c =
     let a = c .before .before .before .before .args in
     let g = c .before .answer2 .given in
     let l = a .ring .now in
-    kept (a .old) (g .0 .0) (g .0 .1 .0) l
+    ap (λ (x : Answer). outcome x (g .0 .1 .0) l []) (sym (valued-refused _ (g .0 .0)))
     ∙ ap (λ (x : Answered). tellOf (a .old) (outcome (answerOf x) (recordOf x) l [])) (sym (g .1))
 
 pub told-spec : {M : Type 1} → statement M

@@ -2,7 +2,6 @@
 -- Assumes nothing.
 use borrow.Author.Needs.{needs}
 use native.Mathlib.Omega.{arith}
-use Rattle.desc.specs.Flags.{WRITE, has}
 use Rattle.walk.specs.Walk.{lookOf}
 use Rattle.walk.proofs.Laws.{one-or-none}
 use Rattle.walk.proofs.look.Statement.{statement}

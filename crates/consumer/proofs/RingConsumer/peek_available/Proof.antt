@@ -1,17 +1,14 @@
 -- `consumer::RingConsumer::peek_available` meets its contract: each exit by the tests that led to it.
 -- Assumes nothing.
 use borrow.Author.Needs.{needs}
-use Prim.Native.Nat.{ℕ}
-use mathlib.Core.Path.{_≡_, sym, ap, _∙_}
+use mathlib.Core.Path.{sym, ap, _∙_}
 use mathlib.Core.List.{[], _∷_}
 use mathlib.Core.Bool.{Bool}
 use lib.ListN.{length}
-use Rattle.base.specs.Refusals.{numberOf}
 use Rattle.base.specs.Answer.{done, refused, bit}
-use Rattle.base.proofs.Ladder.{named}
+use Rattle.base.proofs.Ladder.{refuses}
 use Rattle.desc.specs.declared.Descriptor.{Descriptor}
 use Rattle.desc.specs.Flags.{isAvail}
-use Rattle.consumer.specs.Record.{bytesRefusal}
 use Rattle.consumer.proofs.Ready.{bytes-below}
 use Rattle.consumer.proofs.Poll.{peek-refused, peek-done}
 use Rattle.consumer.proofs.RingConsumer.peek_available.Statement.{statement}
@@ -26,11 +23,10 @@ numbered-requires c κs = search needs
 returns : tie.Need-returns
 returns c =
     let a = c .before .before .before .before .args in
-    let n = bytesRefusal (a .self) (length (a .ring .now)) in
-    let e = c .before .before .bytes .ensures in
-    let z : n ≡ 0 → ⊥ = λ h. c .before .if1 .taken (e ∙ h) in
-    ap refused (named (numberOf (c .numbered .result)) (c .before .before .bytes .result) n (c .numbered .ensures) e z (bytes-below (a .self) (length (a .ring .now))))
-    ∙ sym (peek-refused (a .self) (a .ring .now) z)
+    refuses refused _ _ _ _
+    (c .numbered .ensures) (c .before .before .bytes .ensures) (c .before .if1 .taken)
+    (bytes-below (a .self) (length (a .ring .now)))
+    (peek-refused (a .self) (a .ring .now))
 
 look-requires : tie.Need-look-requires
 look-requires c κs = search needs

@@ -6,13 +6,12 @@ use Prim.Native.Nat.{ℕ}
 use mathlib.Core.Path.{_≡_, sym, ap, ap₂, _∙_}
 use mathlib.Core.List.{[], _∷_}
 use lib.ListN.{length}
-use Rattle.base.specs.Refusals.{numberOf}
 use Rattle.base.specs.Answer.{done, refused}
-use Rattle.base.proofs.Ladder.{named}
+use Rattle.base.proofs.Ladder.{refuses}
 use Rattle.desc.specs.declared.Descriptor.{Descriptor}
 use Rattle.walk.specs.declared.Walk.{Walk}
-use Rattle.consumer.specs.Poll.{taken, headRefusal, walkRefusal, walkedOf, headOf, takenOf}
-use Rattle.consumer.proofs.Poll.{WalkReady, walk-ready, walk-below, head-below, poll-stopped, poll-refused, poll-taken}
+use Rattle.consumer.specs.Poll.{taken, headRefusal, walkRefusal, walkedOf, headOf, polledOf}
+use Rattle.consumer.proofs.Poll.{walk-ready, walk-below, head-below, poll-stopped, poll-refused, poll-taken}
 use Rattle.consumer.proofs.RingConsumer.poll_available.Statement.{statement}
 use Rattle.consumer.proofs.RingConsumer.poll_available.Tie as tie
 
@@ -48,13 +47,10 @@ returns : tie.Need-returns
 returns c =
     let a = c .before .before .before .before .before .before .before .before .args in
     let f : Descriptor → ℕ = λ d. headRefusal (a .self) (length (a .ring .now)) d (length (a .counts .now)) (length (a .addrs .now)) (length (a .lens .now)) 0 in
-    let n = f (headOf (a .self) (a .ring .now)) in
-    let e : c .before .before .head .result ≡ n = c .before .before .head .ensures ∙ ap f (c .before .before .before .look .ensures) in
-    let z : n ≡ 0 → ⊥ = λ h. c .before .if1 .taken (e ∙ h) in
-    ap (λ (x : ℕ). taken (refused x) (a .self) (a .counts .now) (a .addrs .now) (a .lens .now))
-    (named (numberOf (c .numbered .result)) (c .before .before .head .result) n (c .numbered .ensures) e z
-    (head-below (a .self) (length (a .ring .now)) (headOf (a .self) (a .ring .now)) (length (a .counts .now)) (length (a .addrs .now)) (length (a .lens .now)) 0 (omega arith)))
-    ∙ sym (poll-stopped (a .self) (a .ring .now) (a .counts .now) (a .addrs .now) (a .lens .now) z)
+    refuses (λ (x : ℕ). taken (refused x) (a .self) (a .counts .now) (a .addrs .now) (a .lens .now)) _ _ _ _
+    (c .numbered .ensures) (c .before .before .head .ensures ∙ ap f (c .before .before .before .look .ensures)) (c .before .if1 .taken)
+    (head-below (a .self) (length (a .ring .now)) _ (length (a .counts .now)) (length (a .addrs .now)) (length (a .lens .now)) 0 (omega arith))
+    (poll-stopped (a .self) (a .ring .now) (a .counts .now) (a .addrs .now) (a .lens .now))
 
 chain-requires : tie.Need-chain-requires
 chain-requires c κs = search needs
@@ -71,13 +67,10 @@ same-length c = search needs
 returns-2 : tie.Need-returns-2
 returns-2 c =
     let a = c .before .before .before .before .before .before .before .before .before .before .before .before .args in
-    let n = walkRefusal (a .self) (walkedOf (a .self) (a .ring .now)) (headOf (a .self) (a .ring .now) .id) (a .counts .now) in
-    let e = at-walk (c .before .before) in
-    let z : n ≡ 0 → ⊥ = λ h. c .before .if2 .taken (e ∙ h) in
-    ap (λ (x : ℕ). taken (refused x) (a .self) (a .counts .now) (a .addrs .now) (a .lens .now))
-    (named (numberOf (c .numbered2 .result)) (c .before .before .walk .result) n (c .numbered2 .ensures) e z
-    (walk-below (a .self) (walkedOf (a .self) (a .ring .now)) (headOf (a .self) (a .ring .now) .id) (a .counts .now)))
-    ∙ sym (poll-refused (a .self) (a .ring .now) (a .counts .now) (a .addrs .now) (a .lens .now) (at-head (c .before .before .before .before .before)) z)
+    refuses (λ (x : ℕ). taken (refused x) (a .self) (a .counts .now) (a .addrs .now) (a .lens .now)) _ _ _ _
+    (c .numbered2 .ensures) (at-walk (c .before .before)) (c .before .if2 .taken)
+    (walk-below (a .self) (walkedOf (a .self) (a .ring .now)) (headOf (a .self) (a .ring .now) .id) (a .counts .now))
+    (poll-refused (a .self) (a .ring .now) (a .counts .now) (a .addrs .now) (a .lens .now) (at-head (c .before .before .before .before .before)))
 
 copy-out-requires : tie.Need-copy-out-requires
 copy-out-requires c κs = search needs
@@ -104,7 +97,7 @@ same-length-4 : tie.Need-same-length-4
 same-length-4 c = search needs
 
 returns-3 : tie.Need-returns-3
-unfolding takenOf
+unfolding polledOf
 returns-3 c =
     let t = c .before .before .before .before .before .before .before .before .before .before .before .before .before .before in
     let a = t .before .before .before .before .before .before .before .before .before .before .args in
@@ -112,7 +105,7 @@ returns-3 c =
     let d = t .before .before .before .before .before .look .result in
     let o = c .before .before .before .before .before .before .before .before .before .before .copy-out .ensures in
     (λ i. taken (done (d .id ∷ w .count ∷ w .readable ∷ [])) (c .past .ensures i) (c .before .before .before .set16 .ensures i) (o .0 i) (o .1 i))
-    ∙ ap₂ (λ (v : Walk) (x : Descriptor). takenOf (a .self) (a .ring .now) (x .id) v (a .counts .now) (a .addrs .now) (a .lens .now)) (t .before .before .chain .ensures) (t .before .before .before .before .before .look .ensures)
+    ∙ ap₂ (λ (v : Walk) (x : Descriptor). polledOf (a .self) (a .ring .now) (x .id) v (a .counts .now) (a .addrs .now) (a .lens .now)) (t .before .before .chain .ensures) (t .before .before .before .before .before .look .ensures)
     ∙ sym (poll-taken (a .self) (a .ring .now) (a .counts .now) (a .addrs .now) (a .lens .now) (at-head (t .before .before .before)) (sym (at-walk t) ∙ c .before .before .before .before .before .before .before .before .before .before .before .before .before .if2 .left))
 
 pub poll-available-spec : {M : Type 1} → statement M

@@ -2,14 +2,12 @@
 -- Assumes nothing.
 use borrow.Author.Needs.{needs}
 use Prim.Native.Nat.{ℕ}
-use mathlib.Core.Path.{_≡_, sym, ap, _∙_}
+use mathlib.Core.Path.{sym, ap, _∙_}
 use mathlib.Core.List.{[]}
 use lib.ListN.{length}
-use Rattle.base.specs.Refusals.{numberOf}
 use Rattle.base.specs.Answer.{done, refused}
 use Rattle.base.specs.Answer as base
-use Rattle.base.proofs.Ladder.{named}
-use Rattle.consumer.specs.Record.{lentRefusal}
+use Rattle.base.proofs.Ladder.{refuses}
 use Rattle.consumer.specs.Outcome.{outcome}
 use Rattle.consumer.proofs.Ready.{lent-below}
 use Rattle.consumer.proofs.Reset.{reset-refused, reset-done}
@@ -25,13 +23,10 @@ numbered-requires c κs = search needs
 returns : tie.Need-returns
 returns c =
     let a = c .before .before .before .before .before .args in
-    let n = lentRefusal (a .self) (length (a .ring .now)) (length (a .counts .now)) in
-    let e = c .before .before .all .ensures in
-    let z : n ≡ 0 → ⊥ = λ h. c .before .if1 .taken (e ∙ h) in
-    ap (λ (x : ℕ). outcome (refused x) (a .self) (a .ring .now) (a .counts .now))
-    (named (numberOf (c .numbered .result)) (c .before .before .all .result) n (c .numbered .ensures) e z
-    (lent-below (a .self) (length (a .ring .now)) (length (a .counts .now))))
-    ∙ sym (reset-refused (a .self) (a .ring .now) (a .counts .now) z)
+    refuses (λ (x : ℕ). outcome (refused x) (a .self) (a .ring .now) (a .counts .now)) _ _ _ _
+    (c .numbered .ensures) (c .before .before .all .ensures) (c .before .if1 .taken)
+    (lent-below (a .self) (length (a .ring .now)) (length (a .counts .now)))
+    (reset-refused (a .self) (a .ring .now) (a .counts .now))
 
 clear-requires : tie.Need-clear-requires
 clear-requires c κs = search needs

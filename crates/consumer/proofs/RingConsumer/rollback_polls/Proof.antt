@@ -4,18 +4,16 @@ use borrow.Author.Needs.{needs}
 use native.Mathlib.Omega.{arith}
 use Prim.Native.Nat.{ℕ}
 use mathlib.Core.Path.{_≡_, sym, ap, ap₂, _∙_}
-use mathlib.Core.List.{List, [], _∷_}
-use mathlib.Core.Bool.{false}
+use mathlib.Core.List.{List, []}
 use lib.ListN.{length}
 use Rattle.base.specs.Refusals.{numberOf}
-use Rattle.base.specs.Answer.{Answer, done, refused}
-use Rattle.base.proofs.Ladder.{named}
+use Rattle.base.specs.Answer.{done, refused}
+use Rattle.base.proofs.Ladder.{refuses}
 use Rattle.cursor.proofs.Ready.{ready-not-bad}
 use Rattle.undo.specs.Undo as undo
 use Rattle.undo.specs.Undo.{sumOf, clearedOf}
 use Rattle.consumer.specs.declared.RingConsumer.{RingConsumer}
 use Rattle.consumer.specs.Outcome.{rolled}
-use Rattle.consumer.specs.Rollback.{handedRefusal}
 use Rattle.consumer.proofs.Rollback.{HandedReady, handed-ready, handed-below, rollback-stopped, rollback-refused, rollback-done, sum-stops, sum-goes, is-stale, is-current}
 use Rattle.consumer.proofs.RingConsumer.rollback_polls.Statement.{statement}
 use Rattle.consumer.proofs.RingConsumer.rollback_polls.Tie as tie
@@ -43,12 +41,10 @@ numbered-requires c κs = search needs
 returns : tie.Need-returns
 returns c =
     let a = c .before .before .before .before .before .args in
-    let n = handedRefusal (a .self) (a .cp) (length (a .counts .now)) 0 in
-    let e = c .before .before .handed .ensures in
-    let z : n ≡ 0 → ⊥ = λ h. c .before .if1 .taken (e ∙ h) in
-    ap (λ (x : ℕ). rolled (refused x) (a .self) (a .counts .now))
-    (named (numberOf (c .numbered .result)) (c .before .before .handed .result) n (c .numbered .ensures) e z (handed-below (a .self) (a .cp) (length (a .counts .now))))
-    ∙ sym (rollback-stopped (a .self) (a .counts .now) (a .cp) (a .ids .now) z)
+    refuses (λ (x : ℕ). rolled (refused x) (a .self) (a .counts .now)) _ _ _ _
+    (c .numbered .ensures) (c .before .before .handed .ensures) (c .before .if1 .taken)
+    (handed-below (a .self) (a .cp) (length (a .counts .now)))
+    (rollback-stopped (a .self) (a .counts .now) (a .cp) (a .ids .now))
 
 sum-requires : tie.Need-sum-requires
 sum-requires c κs = search needs

@@ -3,18 +3,17 @@
 use borrow.Author.Needs.{needs}
 use native.Mathlib.Omega.{arith}
 use Prim.Native.Nat.{ℕ}
-use mathlib.Core.Path.{_≡_, sym, ap, _∙_}
+use mathlib.Core.Path.{sym, ap, _∙_}
 use mathlib.Core.List.{[]}
 use lib.ListN.{length}
-use Rattle.base.specs.Refusals.{numberOf}
 use Rattle.base.specs.Answer.{done, refused}
-use Rattle.base.proofs.Ladder.{named}
+use Rattle.base.proofs.Ladder.{refuses}
 use Rattle.cursor.proofs.Ready.{ready-not-bad}
 use Rattle.desc.specs.declared.Descriptor.{Descriptor}
 use Rattle.desc.specs.Desc.{markUsed}
 use Rattle.ring.specs.Slots.{slotPut}
 use Rattle.consumer.specs.Outcome.{outcome}
-use Rattle.consumer.specs.Complete.{completeRefusal, completedOf}
+use Rattle.consumer.specs.Complete.{completedOf}
 use Rattle.consumer.proofs.Complete.{CompleteReady, complete-ready, complete-below, complete-refused, complete-done}
 use Rattle.consumer.proofs.RingConsumer.submit_used.Statement.{statement}
 use Rattle.consumer.proofs.RingConsumer.submit_used.Tie as tie
@@ -39,13 +38,10 @@ same-length c = search needs
 returns : tie.Need-returns
 returns c =
     let a = c .before .before .before .before .before .before .args in
-    let n = completeRefusal (a .self) (length (a .ring .now)) (a .id) (a .counts .now) in
-    let e = c .before .before .complete .ensures in
-    let z : n ≡ 0 → ⊥ = λ h. c .before .if1 .taken (e ∙ h) in
-    ap (λ (x : ℕ). outcome (refused x) (a .self) (a .ring .now) (a .counts .now))
-    (named (numberOf (c .numbered .result)) (c .before .before .complete .result) n (c .numbered .ensures) e z
-    (complete-below (a .self) (length (a .ring .now)) (a .id) (a .counts .now)))
-    ∙ sym (complete-refused (a .self) (a .ring .now) (a .counts .now) (a .id) (a .len) z)
+    refuses (λ (x : ℕ). outcome (refused x) (a .self) (a .ring .now) (a .counts .now)) _ _ _ _
+    (c .numbered .ensures) (c .before .before .complete .ensures) (c .before .if1 .taken)
+    (complete-below (a .self) (length (a .ring .now)) (a .id) (a .counts .now))
+    (complete-refused (a .self) (a .ring .now) (a .counts .now) (a .id) (a .len))
 
 at16-requires : tie.Need-at16-requires
 at16-requires c κs = search needs

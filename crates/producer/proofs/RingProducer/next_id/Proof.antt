@@ -2,13 +2,11 @@
 -- Assumes nothing.
 use borrow.Author.Needs.{needs}
 use Prim.Native.Nat.{ℕ}
-use mathlib.Core.Path.{_≡_, sym, ap, _∙_}
+use mathlib.Core.Path.{sym, ap, _∙_}
 use mathlib.Core.List.{[], _∷_}
 use lib.ListN.{getD}
-use Rattle.base.specs.Refusals.{numberOf}
 use Rattle.base.specs.Answer.{done, refused}
-use Rattle.base.proofs.Ladder.{named}
-use Rattle.producer.specs.Poll.{nextRefusal}
+use Rattle.base.proofs.Ladder.{refuses}
 use Rattle.producer.proofs.Poll.{next-below, next-refused, next-done}
 use Rattle.producer.proofs.RingProducer.next_id.Statement.{statement}
 use Rattle.producer.proofs.RingProducer.next_id.Tie as tie
@@ -22,11 +20,10 @@ numbered-requires c κs = search needs
 returns : tie.Need-returns
 returns c =
     let a = c .before .before .before .before .before .args in
-    let n = nextRefusal (a .self) (a .ids .now) (a .counts .now) in
-    let e = c .before .before .next-id .ensures in
-    let z : n ≡ 0 → ⊥ = λ h. c .before .if1 .taken (e ∙ h) in
-    ap refused (named (numberOf (c .numbered .result)) (c .before .before .next-id .result) n (c .numbered .ensures) e z (next-below (a .self) (a .ids .now) (a .counts .now)))
-    ∙ sym (next-refused (a .self) (a .ids .now) (a .counts .now) z)
+    refuses refused _ _ _ _
+    (c .numbered .ensures) (c .before .before .next-id .ensures) (c .before .if1 .taken)
+    (next-below (a .self) (a .ids .now) (a .counts .now))
+    (next-refused (a .self) (a .ids .now) (a .counts .now))
 
 below-requires : tie.Need-below-requires
 below-requires c κs = search needs

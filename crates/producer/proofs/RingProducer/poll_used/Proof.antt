@@ -2,16 +2,14 @@
 -- Assumes nothing.
 use borrow.Author.Needs.{needs}
 use Prim.Native.Nat.{ℕ}
-use mathlib.Core.Path.{_≡_, sym, ap, _∙_}
+use mathlib.Core.Path.{sym, ap, _∙_}
 use mathlib.Core.List.{[], _∷_}
 use lib.ListN.{length}
-use Rattle.base.specs.Refusals.{numberOf}
 use Rattle.base.specs.Answer.{done, refused}
-use Rattle.base.proofs.Ladder.{named}
+use Rattle.base.proofs.Ladder.{refuses}
 use native.Mathlib.Omega.{arith}
 use Rattle.desc.specs.declared.Descriptor.{Descriptor}
 use Rattle.cursor.proofs.Ready.{ready-not-bad}
-use Rattle.ring.specs.Slots.{slotOf}
 use Rattle.producer.specs.Outcome.{outcome}
 use Rattle.producer.specs.Poll.{pollRefusal, freedOf, polledOf}
 use Rattle.producer.proofs.Poll.{PollReady, poll-ready, poll-below, poll-refused, poll-done}
@@ -42,15 +40,11 @@ same-length c = search needs
 returns : tie.Need-returns
 returns c =
     let a = c .before .before .before .before .before .before .before .before .args in
-    let d = slotOf (a .self .layout .table) (a .self .used) (a .ring .now) in
-    let n = pollRefusal (a .self) (length (a .ring .now)) d (length (a .ids .now)) (a .counts .now) in
-    let e = c .before .before .poll .ensures
-    ∙ ap (λ (x : Descriptor). pollRefusal (a .self) (length (a .ring .now)) x (length (a .ids .now)) (a .counts .now)) (c .before .before .before .before .look .ensures) in
-    let z : n ≡ 0 → ⊥ = λ h. c .before .if1 .taken (e ∙ h) in
-    ap (λ (x : ℕ). outcome (refused x) (a .self) (a .ring .now) (a .ids .now) (a .counts .now))
-    (named (numberOf (c .numbered .result)) (c .before .before .poll .result) n (c .numbered .ensures) e z
-    (poll-below (a .self) (length (a .ring .now)) d (length (a .ids .now)) (a .counts .now)))
-    ∙ sym (poll-refused (a .self) (a .ring .now) (a .ids .now) (a .counts .now) z)
+    let f : Descriptor → ℕ = λ d. pollRefusal (a .self) (length (a .ring .now)) d (length (a .ids .now)) (a .counts .now) in
+    refuses (λ (x : ℕ). outcome (refused x) (a .self) (a .ring .now) (a .ids .now) (a .counts .now)) _ _ _ _
+    (c .numbered .ensures) (c .before .before .poll .ensures ∙ ap f (c .before .before .before .before .look .ensures)) (c .before .if1 .taken)
+    (poll-below (a .self) (length (a .ring .now)) _ (length (a .ids .now)) (a .counts .now))
+    (poll-refused (a .self) (a .ring .now) (a .ids .now) (a .counts .now))
 
 cast-at16 : tie.Need-cast-at16
 cast-at16 c = search needs

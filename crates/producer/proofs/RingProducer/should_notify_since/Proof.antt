@@ -1,14 +1,12 @@
 -- `producer::RingProducer::should_notify_since` meets its contract: each exit by the ladder.
 -- Assumes nothing.
 use borrow.Author.Needs.{needs}
-use mathlib.Core.Path.{_≡_, sym, ap, _∙_}
+use mathlib.Core.Path.{sym, ap, _∙_}
 use mathlib.Core.List.{[], _∷_}
 use lib.ListN.{length}
-use Rattle.base.specs.Refusals.{numberOf}
 use Rattle.base.specs.Answer.{done, refused, bit}
-use Rattle.base.proofs.Ladder.{named}
+use Rattle.base.proofs.Ladder.{refuses}
 use mathlib.Core.Bool.{Bool}
-use Rattle.producer.specs.Notices.{sinceRefusal}
 use Rattle.producer.proofs.Notices.{since-below, since-refused, since-done}
 use Rattle.producer.proofs.RingProducer.should_notify_since.Statement.{statement}
 use Rattle.producer.proofs.RingProducer.should_notify_since.Tie as tie
@@ -22,11 +20,10 @@ numbered-requires c κs = search needs
 returns : tie.Need-returns
 returns c =
     let a = c .before .before .before .before .args in
-    let n = sinceRefusal (a .self) (length (a .ring .now)) (a .old) in
-    let e = c .before .before .since .ensures in
-    let z : n ≡ 0 → ⊥ = λ h. c .before .if1 .taken (e ∙ h) in
-    ap refused (named (numberOf (c .numbered .result)) (c .before .before .since .result) n (c .numbered .ensures) e z (since-below (a .self) (length (a .ring .now)) (a .old)))
-    ∙ sym (since-refused (a .self) (a .ring .now) (a .old) z)
+    refuses refused _ _ _ _
+    (c .numbered .ensures) (c .before .before .since .ensures) (c .before .if1 .taken)
+    (since-below (a .self) (length (a .ring .now)) (a .old))
+    (since-refused (a .self) (a .ring .now) (a .old))
 
 should-notify-evt-requires : tie.Need-should-notify-evt-requires
 should-notify-evt-requires c κs = search needs
