@@ -24,7 +24,7 @@ use Rattle.walk.specs.Walk.{slotsFrom, addrOf, lenOf}
 use Rattle.walk.proofs.Laws.{Spelt, walk-whole, slots-length, slots-at}
 use Rattle.producer.specs.declared.RingProducer.{RingProducer}
 use Rattle.producer.specs.Submit.{topOf, submitRefusal, elementOf, submitOf}
-use Rattle.producer.proofs.Ready.{ready}
+use Rattle.producer.proofs.Submit.{submit-ready}
 use Rattle.producer.proofs.Frame.{Says, chain-at, element-ranged, marked-says}
 use Rattle.producer.proofs.Touch.{submit-ring}
 use Rattle.consumer.specs.declared.RingConsumer.{RingConsumer}
@@ -49,7 +49,7 @@ pub written :
     → ((i : ℕ) → getD addrs i 0 < 256 ^ 8) → ((i : ℕ) → getD lens i 0 < 256 ^ 4)
     → Stands (p .layout) (submitOf p ring ids counts addrs lens readable .ring) (p .avail) (topOf p ids) addrs lens readable
 written p ring ids counts addrs lens readable h aw lw =
-    let r = ready p (length ring) ids counts (length addrs) (length lens) readable h in
+    let r = submit-ready p (length ring) ids counts (length addrs) (length lens) readable h in
     let few : length addrs ≤ p .layout .size = omega (arith, r .room, r .sound .free) in
     record {
       some-elements = r .elements;

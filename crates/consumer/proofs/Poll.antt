@@ -18,7 +18,7 @@ use Rattle.walk.specs.declared.Walk.{Walk}
 use Rattle.walk.specs.Walk.{slotsFrom, addrOf, lenOf}
 use Rattle.consumer.specs.declared.RingConsumer.{RingConsumer}
 use Rattle.consumer.specs.Record.{badRecord, badLent, bytesRefusal}
-use Rattle.consumer.specs.Poll.{taken, headRefusal, walkRefusal, walkedOf, headOf, pollRefusal, pastOf, takenOf, pollOf, peekOf}
+use Rattle.consumer.specs.Poll.{taken, headRefusal, walkRefusal, walkedOf, headOf, pollRefusal, pastOf, polledOf, pollOf, peekOf}
 use Rattle.consumer.proofs.Ready.{Sound, sound, Lent, lent}
 
 -- what a poll may count on that is not refused up to its head
@@ -150,7 +150,7 @@ module _ (p : RingConsumer) (ring counts addrs lens : List ℕ) where
 
   pub poll-taken :
       at-head ≡ 0 → at-walk ≡ 0
-      → pollOf p ring counts addrs lens ≡ takenOf p ring (headOf p ring .id) (walkedOf p ring) counts addrs lens
+      → pollOf p ring counts addrs lens ≡ polledOf p ring (headOf p ring .id) (walkedOf p ring) counts addrs lens
   unfolding pollOf pollRefusal
   poll-taken z h =
       let e = head-passed p (length ring) (headOf p ring) (length counts) (length addrs) (length lens) at-walk z in
@@ -164,7 +164,7 @@ module _ (p : RingConsumer) (ring counts addrs lens : List ℕ) where
       (pastOf p (walkedOf p ring .at) (walkedOf p ring .count)) (set counts (headOf p ring .id) (walkedOf p ring .count))
       (sets addrs 0 (map addrOf (slotsFrom (p .layout .table) (p .layout .size) ring (p .avail) (walkedOf p ring .count))))
       (sets lens 0 (map lenOf (slotsFrom (p .layout .table) (p .layout .size) ring (p .avail) (walkedOf p ring .count))))
-  unfolding pollOf takenOf
+  unfolding pollOf polledOf
   poll-takes h = simp (eq-eqb no 0 h)
 
   -- and what is not in its way, it takes

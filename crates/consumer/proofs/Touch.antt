@@ -1,22 +1,22 @@
 -- Frames: which bytes and which entries each call can touch, and what it leaves of the rest.
 -- Assumes nothing.
 use Prim.Native.Nat.{ℕ, _≤_}
-use mathlib.Core.Path.{_≡_, refl, _∙_, ap}
+use mathlib.Core.Path.{_≡_, _∙_, ap}
 use mathlib.Core.List.{List, map}
 use mathlib.Core.Bool.{Bool, false}
 use native.Mathlib.Omega.{arith}
+use lib.Dec.{eqb}
 use lib.ListN.{length, getD, set, replicate, length-replicate}
 use lib.Seq.{sets, getD-set-other}
 use Rattle.base.specs.Bytes.{getOf}
-use Rattle.base.proofs.Tests.{by-eq}
+use Rattle.base.proofs.Tests.{by-eq, chosen}
 use Rattle.cursor.specs.declared.RingCursor.{RingCursor}
 use Rattle.desc.specs.declared.Descriptor.{Descriptor}
 use Rattle.desc.specs.Desc.{descriptor, markUsed}
-use Rattle.event.specs.Event.{ENABLE, event, encodeOf}
+use Rattle.event.specs.Event.{ENABLE, DESC, event, encodeOf}
 use Rattle.event.proofs.Trips.{encode-length}
 use Rattle.ring.specs.Slots.{placeOf, slotOf}
-use Rattle.ring.specs.Events.{turned, armed}
-use Rattle.ring.proofs.Frames.{Clear, slot-length, slot-clear, slot-other, put-length, put-clear, turned-length, turned-clear, armed-length, armed-clear, sets-behind}
+use Rattle.ring.proofs.Frames.{Clear, slot-length, slot-clear, slot-other, put-length, put-clear, EventAlone, event-kept, turned-alone, armed-alone, sets-behind}
 use Rattle.undo.specs.Undo.{named}
 use Rattle.undo.proofs.Laws.{cleared-other}
 use Rattle.walk.specs.Walk.{slotsFrom, addrOf, lenOf}
@@ -24,16 +24,15 @@ use Rattle.walk.proofs.Laws.{slots-length}
 use Rattle.consumer.specs.declared.RingConsumer.{RingConsumer}
 use Rattle.consumer.specs.declared.Checkpoint.{Checkpoint}
 use Rattle.consumer.specs.Record.{bytesRefusal, lentRefusal}
-use Rattle.consumer.specs.Outcome.{Outcome}
-use Rattle.consumer.specs.Poll.{Taken, headRefusal, walkRefusal, walkedOf, headOf, takenOf, pollOf}
+use Rattle.consumer.specs.Outcome.{Outcome, Changed}
+use Rattle.consumer.specs.Poll.{Taken, headRefusal, walkRefusal, walkedOf, headOf, polledOf, pollOf}
 use Rattle.consumer.specs.Complete.{completeRefusal, completeOf}
 use Rattle.consumer.specs.Rollback.{rollbackOf, rollbackRefusal}
-use Rattle.consumer.specs.Notices.{turnOf, armOf}
+use Rattle.consumer.specs.Notices.{noticeOf, turnOf, armOf}
 use Rattle.consumer.specs.Fresh.{resetOf}
 use Rattle.consumer.proofs.Poll.{poll-taken}
 use Rattle.consumer.proofs.Complete.{complete-done}
 use Rattle.consumer.proofs.Rollback.{rollback-kept, rollback-cleared}
-use Rattle.consumer.proofs.Notices.{turn-refused, turn-kept, turn-done, arm-refused, arm-done}
 use Rattle.consumer.proofs.Reset.{reset-done}
 
 -- ---- a poll that takes a chain: one entry of the counts, and the first places of both outputs. The bytes are lent as `&`.
@@ -48,15 +47,15 @@ module _ (p : RingConsumer) (ring counts addrs lens : List ℕ)
   read A = map A (slotsFrom (p .layout .table) (p .layout .size) ring (p .avail) (walkedOf p ring .count))
 
   pub poll-counts : took .counts ≡ set counts (headOf p ring .id) (walkedOf p ring .count)
-  unfolding takenOf
+  unfolding polledOf
   poll-counts = ap (λ (o : Taken). o .counts) (poll-taken p ring counts addrs lens h k)
 
   pub poll-addrs : took .addrs ≡ sets addrs 0 (read addrOf)
-  unfolding takenOf
+  unfolding polledOf
   poll-addrs = ap (λ (o : Taken). o .addrs) (poll-taken p ring counts addrs lens h k)
 
   pub poll-lens : took .lens ≡ sets lens 0 (read lenOf)
-  unfolding takenOf
+  unfolding polledOf
   poll-lens = ap (λ (o : Taken). o .lens) (poll-taken p ring counts addrs lens h k)
 
   pub poll-count-other : (i : ℕ) → (i ≡ headOf p ring .id → ⊥) → getD (took .counts) i 0 ≡ getD counts i 0
@@ -114,38 +113,19 @@ module _ (p : RingConsumer) (counts : List ℕ) (cp : Checkpoint) (ids : List �
 -- ---- a notification's call, refused or not: the device's event area
 
 module _ (p : RingConsumer) (ring : List ℕ) where
-  abbrev no : ℕ
-  no = bytesRefusal p (length ring)
+  notice-alone :
+      (flags : ℕ) (bytes : List ℕ) → EventAlone (p .layout .device) ring bytes
+      → EventAlone (p .layout .device) ring (noticeOf p ring flags bytes .ring)
+  unfolding noticeOf
+  notice-alone flags bytes h =
+      chosen (λ (o : Changed). EventAlone (p .layout .device) ring (o .ring)) (eqb (bytesRefusal p (length ring)) 0) _ _
+      h (event-kept (p .layout .device) ring)
 
-  -- what holds of the bytes as they were and of the bytes turned holds of what the call leaves
-  turn-either : (P : List ℕ → Type 0) (flags : ℕ) → P ring → P (turned (p .layout .device) flags ring) → P (turnOf p ring flags .ring)
-  turn-either P flags a b =
-      by-eq no 0
-      (λ z. by-eq (p .shadow) flags
-      (λ s. rw (turn-kept p ring flags z s) a)
-      (λ s. rw (turn-done p ring flags z s) b))
-      (λ z. rw (turn-refused p ring flags z) a)
+  pub turn-alone : (flags : ℕ) → EventAlone (p .layout .device) ring (turnOf p ring flags .ring)
+  turn-alone flags = notice-alone flags _ (turned-alone (p .layout .device) ring (p .shadow) flags)
 
-  pub turn-length : (flags : ℕ) → length (turnOf p ring flags .ring) ≡ length ring
-  turn-length flags =
-      turn-either (λ (l : List ℕ). length l ≡ length ring) flags refl (turned-length (p .layout .device) ring flags)
-
-  pub turn-clear : (flags j m : ℕ) → Clear (p .layout .device) 4 j m → getOf (turnOf p ring flags .ring) j m ≡ getOf ring j m
-  turn-clear flags j m o =
-      turn-either (λ (l : List ℕ). getOf l j m ≡ getOf ring j m) flags refl (turned-clear (p .layout .device) ring flags j m o)
-
-  arm-either :
-      (P : List ℕ → Type 0) (off : ℕ) (wrap : Bool) → P ring → P (armed (p .layout .device) off wrap ring) → P (armOf p ring off wrap .ring)
-  arm-either P off wrap a b =
-      by-eq no 0 (λ z. rw (arm-done p ring off wrap z) b) (λ z. rw (arm-refused p ring off wrap z) a)
-
-  pub arm-length : (off : ℕ) (wrap : Bool) → length (armOf p ring off wrap .ring) ≡ length ring
-  arm-length off wrap =
-      arm-either (λ (l : List ℕ). length l ≡ length ring) off wrap refl (armed-length (p .layout .device) ring off wrap)
-
-  pub arm-clear : (off : ℕ) (wrap : Bool) (j m : ℕ) → Clear (p .layout .device) 4 j m → getOf (armOf p ring off wrap .ring) j m ≡ getOf ring j m
-  arm-clear off wrap j m o =
-      arm-either (λ (l : List ℕ). getOf l j m ≡ getOf ring j m) off wrap refl (armed-clear (p .layout .device) ring off wrap j m o)
+  pub arm-alone : (off : ℕ) (wrap : Bool) → EventAlone (p .layout .device) ring (armOf p ring off wrap .ring)
+  arm-alone off wrap = notice-alone DESC _ (armed-alone (p .layout .device) ring off wrap)
 
 -- ---- an accepted reset: the device's event area, and the first ring-size entries
 

@@ -22,20 +22,16 @@ shadowOf p flags =
       shadow = flags;
     }
 
--- "Turning notifications on or off writes nothing if the end's shadow already says so, and otherwise keeps the offset word."
-unfoldable pub turnOf : RingConsumer → List ℕ → ℕ → Changed
-turnOf p ring flags =
+-- a notification's call: refused, or these flags in the shadow and these bytes
+unfoldable pub noticeOf : RingConsumer → List ℕ → ℕ → List ℕ → Changed
+noticeOf p ring flags bytes =
     let no = bytesRefusal p (length ring) in
-    cond (eqb no 0)
-    (cond (eqb (p .shadow) flags)
-    (changed (done []) p ring)
-    (changed (done []) (shadowOf p flags) (turned (p .layout .device) flags ring)))
-    (changed (refused no) p ring)
+    cond (eqb no 0) (changed (done []) (shadowOf p flags) bytes) (changed (refused no) p ring)
 
--- "Arming at a slot always writes"
-unfoldable pub armOf : RingConsumer → List ℕ → ℕ → Bool → Changed
-armOf p ring off wrap =
-    let no = bytesRefusal p (length ring) in
-    cond (eqb no 0)
-    (changed (done []) (shadowOf p DESC) (armed (p .layout .device) off wrap ring))
-    (changed (refused no) p ring)
+-- "Turning notifications on or off": where the shadow already says so, the record and the bytes stay as they are
+abbrev pub turnOf : RingConsumer → List ℕ → ℕ → Changed
+turnOf p ring flags = noticeOf p ring flags (turned (p .layout .device) (p .shadow) flags ring)
+
+-- "Arming at a slot"
+abbrev pub armOf : RingConsumer → List ℕ → ℕ → Bool → Changed
+armOf p ring off wrap = noticeOf p ring DESC (armed (p .layout .device) off wrap ring)

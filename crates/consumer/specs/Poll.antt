@@ -70,8 +70,8 @@ pastOf p at n =
 
 -- a chain that is taken: its ID, its elements and its readable ones. "A successful poll writes the first n addresses and lengths and
 -- leaves the rest of both output slices alone."
-unfoldable pub takenOf : RingConsumer → List ℕ → ℕ → Walk → List ℕ → List ℕ → List ℕ → Taken
-takenOf p ring id w counts addrs lens =
+unfoldable pub polledOf : RingConsumer → List ℕ → ℕ → Walk → List ℕ → List ℕ → List ℕ → Taken
+polledOf p ring id w counts addrs lens =
     let ds = slotsFrom (p .layout .table) (p .layout .size) ring (p .avail) (w .count) in
     taken (done (id ∷ w .count ∷ w .readable ∷ [])) (pastOf p (w .at) (w .count)) (set counts id (w .count))
     (sets addrs 0 (map addrOf ds)) (sets lens 0 (map lenOf ds))
@@ -80,7 +80,7 @@ unfoldable pub pollOf : RingConsumer → List ℕ → List ℕ → List ℕ → 
 pollOf p ring counts addrs lens =
     let no = pollRefusal p ring counts (length addrs) (length lens) in
     cond (eqb no 0)
-    (takenOf p ring (headOf p ring .id) (walkedOf p ring) counts addrs lens)
+    (polledOf p ring (headOf p ring .id) (walkedOf p ring) counts addrs lens)
     (taken (refused no) p counts addrs lens)
 
 -- the answer's cases, in the paper's number and values, and the record that each hands back

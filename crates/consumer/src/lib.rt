@@ -18,7 +18,7 @@ ghost use Rattle.consumer.specs.Record.{badRecord};
 ghost use Rattle.consumer.specs.Outcome.{outcome, changed, rolled, answerOf, recordOf};
 ghost use Rattle.consumer.specs.Poll.{taken, polledAnswer, polledRecord, pastOf, pollOf, peekOf};
 ghost use Rattle.consumer.specs.Complete.{completedOf, completeOf, tellOf, toldAnswer, toldRecord};
-ghost use Rattle.consumer.specs.Rollback.{checkpointOf, checkpointValues, checkpointAnswer, backOf, rollbackOf};
+ghost use Rattle.consumer.specs.Rollback.{checkpointOf, checkpointValues, checkpointAnswer, sameOf, staleOf, backOf, rollbackOf};
 ghost use Rattle.consumer.specs.Notices.{shadowOf, turnOf, armOf};
 ghost use Rattle.consumer.specs.Fresh.{freshOf, openedAnswer, opened, openOf, resetOf};
 use base::RingError;
@@ -230,7 +230,7 @@ impl RingConsumer {
         let Summed::Slots(n) = undo::sum(counts, self.layout.size, self.inflight, ids) else {
             return Answered::Refused(RingError::BadRollback, self);
         };
-        if refuse::stale(self, cp, n) {
+        if stale(self, cp, n) {
             return Answered::Refused(RingError::BadRollback, self);
         }
         undo::clear(counts, ids);
@@ -340,7 +340,6 @@ impl RingConsumer {
         Answered::Done(fresh(layout))
     }
 
-    // Nothing is written where the shadow already says so.
     fn turned(self, ring: &mut [u8], flags: u16) -> Answered
         ensures { λ r. ⌜ changed (answerOf r) (recordOf r) (now (ring .exit)) ≡ turnOf self (now (ring .entry)) flags ⌝ }
     {
@@ -348,10 +347,7 @@ impl RingConsumer {
         if no != 0 {
             return Answered::Refused(RingError::numbered(no), self);
         }
-        if self.shadow == flags {
-            return Answered::Done(self);
-        }
-        ring::turn(ring, self.layout.device, flags);
+        ring::turn(ring, self.layout.device, self.shadow, flags);
         Answered::Done(self.shadowed(flags))
     }
 
@@ -433,4 +429,21 @@ fn told(answer: Answered, ring: &[u8], old: RingCursor) -> CompletedTold
         ),
         Answered::Refused(e, p) => CompletedTold::Refused(e, p),
     }
+}
+
+fn same_cursor(a: RingCursor, b: RingCursor) -> bool
+    ensures { λ r. ⌜ r ≡ sameOf a b ⌝ }
+{
+    (a.head == b.head) & (a.wrap == b.wrap)
+}
+
+// Is the checkpoint not the record's own, n slots before?
+fn stale(p: RingConsumer, cp: Checkpoint, n: u16) -> bool
+    requires { ⌜ badMove (p .layout .size) n (cp .avail) ≡ false ⌝ }
+    ensures { λ r. ⌜ r ≡ staleOf p cp n ⌝ }
+{
+    let moved = cp.avail.moved(p.layout.size, n);
+    let slots = (cp.inflight as usize) + (n as usize);
+    !same_cursor(p.used, cp.used)
+        | (((p.inflight as usize) != slots) | !same_cursor(p.avail, moved))
 }

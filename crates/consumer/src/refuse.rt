@@ -3,17 +3,13 @@
 // Copyright 2026 The Hyperlight Authors.
 // Translated from src/virtq/ring.rs of hyperlight-common 0.18.0 (the tests of RingConsumer's calls) and changed: over lent slices.
 ghost use mathlib.Core.Path.{_≡_};
-ghost use mathlib.Core.Bool.{false};
-ghost use lib.ListN.{length};
-ghost use Rattle.cursor.specs.Cursor.{badMove};
 ghost use Rattle.consumer.specs.Record.{badRecord, badLent, bytesRefusal, lentRefusal};
 ghost use Rattle.consumer.specs.Poll.{headRefusal, walkRefusal};
 ghost use Rattle.consumer.specs.Complete.{completeRefusal};
-ghost use Rattle.consumer.specs.Rollback.{handedRefusal, sameOf, staleOf};
+ghost use Rattle.consumer.specs.Rollback.{handedRefusal};
 use crate::Checkpoint;
 use crate::RingConsumer;
 use base::pick;
-use cursor::RingCursor;
 use desc::Descriptor;
 use walk::Walk;
 
@@ -93,20 +89,4 @@ pub fn handed(p: RingConsumer, cp: Checkpoint, counts: usize) -> u8
     let eight = pick::pick8(counts < (size as usize), 8, 0);
     let past = (size <= cp.avail.head) | (size <= cp.used.head);
     pick::pick8(record(p) | past, 7, eight)
-}
-
-fn same(a: RingCursor, b: RingCursor) -> bool
-    ensures { λ r. ⌜ r ≡ sameOf a b ⌝ }
-{
-    (a.head == b.head) & (a.wrap == b.wrap)
-}
-
-// Is the checkpoint not the record's own, n slots before?
-pub fn stale(p: RingConsumer, cp: Checkpoint, n: u16) -> bool
-    requires { ⌜ badMove (p .layout .size) n (cp .avail) ≡ false ⌝ }
-    ensures { λ r. ⌜ r ≡ staleOf p cp n ⌝ }
-{
-    let moved = cp.avail.moved(p.layout.size, n);
-    let slots = (cp.inflight as usize) + (n as usize);
-    !same(p.used, cp.used) | (((p.inflight as usize) != slots) | !same(p.avail, moved))
 }

@@ -41,11 +41,11 @@ unfolding slotOf slotPut upFrom turned armed told askOf lookOf walkOf slotsFrom 
 the-ring = tt
 
 unfoldable pub the-producer : Unit {0}
-unfolding madeRecord.badRecord madeRecord.badLent makes.submitRefusal makes.elementOf makes.putTails makes.putChain makes.takenOf makes.submittedOf makes.submitOf madeTold.tellOf usedPoll.pollRefusal usedPoll.freedOf usedPoll.polledOf usedPoll.pollOf usedPoll.nextRefusal usedPoll.nextOf usedNotices.bytesRefusal usedNotices.sinceRefusal usedNotices.shadowOf usedNotices.turnOf usedNotices.armOf usedNotices.sinceOf madeFresh.freshOf madeFresh.openOf
+unfolding madeRecord.badRecord madeRecord.badLent makes.submitRefusal makes.elementOf makes.putTails makes.putChain makes.takenOf makes.submittedOf makes.submitOf madeTold.tellOf usedPoll.pollRefusal usedPoll.freedOf usedPoll.polledOf usedPoll.pollOf usedPoll.nextRefusal usedPoll.nextOf madeRecord.bytesRefusal usedNotices.sinceRefusal usedNotices.shadowOf usedNotices.noticeOf usedNotices.sinceOf madeFresh.freshOf madeFresh.openOf
 the-producer = tt
 
 unfoldable pub the-consumer : Unit {0}
-unfolding takenRecord.badRecord takenRecord.badLent takenRecord.bytesRefusal takes.headRefusal takes.walkRefusal takes.pollRefusal takes.pastOf takes.takenOf takes.pollOf takes.peekOf completeRefusal completedOf completeOf tellOf handedRefusal staleOf rollbackRefusal backOf rollbackOf availNotices.shadowOf availNotices.turnOf availNotices.armOf takenFresh.freshOf takenFresh.openOf
+unfolding takenRecord.badRecord takenRecord.badLent takenRecord.bytesRefusal takes.headRefusal takes.walkRefusal takes.pollRefusal takes.pastOf takes.polledOf takes.pollOf takes.peekOf completeRefusal completedOf completeOf tellOf handedRefusal staleOf rollbackRefusal backOf rollbackOf availNotices.shadowOf availNotices.noticeOf takenFresh.freshOf takenFresh.openOf
 the-consumer = tt
 
 unfoldable pub computing : Unit {0}

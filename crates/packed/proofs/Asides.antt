@@ -11,7 +11,7 @@ use lib.ListN.{length}
 use borrow.Author.Tests.{le-ltb, le-leb}
 use Rattle.base.specs.Answer.{Answer, done, refused}
 use Rattle.base.specs.Bytes.{getOf}
-use Rattle.base.proofs.Tests.{by-lt, by-eq}
+use Rattle.base.proofs.Tests.{by-lt}
 use Rattle.cursor.specs.declared.RingCursor.{RingCursor}
 use Rattle.layout.specs.declared.Layout.{Layout}
 use Rattle.layout.specs.Layout.{badLayout, tableBytes}
@@ -20,7 +20,7 @@ use Rattle.ring.specs.Slots.{placeOf}
 use Rattle.ring.specs.Events.{turned, armed}
 use Rattle.ring.specs.Asked.{askOf}
 use Rattle.ring.proofs.Asked.{ask-good}
-use Rattle.ring.proofs.Frames.{Clear, slot-by-bytes, turned-length, turned-clear, armed-length, armed-clear}
+use Rattle.ring.proofs.Frames.{Clear, slot-by-bytes, turned-alone, armed-alone}
 use Rattle.producer.specs.declared.RingProducer.{RingProducer}
 use Rattle.producer.specs.Record as made
 use Rattle.producer.specs.Outcome as madeOutcome
@@ -98,13 +98,15 @@ module _ (l : Layout) (laid-out : badLayout l ≡ false) where
         (λ p. sym (slot-by-bytes (l .table) (pos size p) r (w .ring) (h (placeOf (l .table) (pos size p)) (event-clear at p apart))))
 
     -- the area at a place turned, and armed
-    turned-like : (at : ℕ) → Apart (l .table) (tableBytes l) at 4 → (s t f : ℕ) → Like l ret (shadowed s t (turned at f (w .ring))) q
-    turned-like at apart s t f =
-        event-like at apart s t (turned at f (w .ring)) (turned-length at (w .ring) f) (λ p. turned-clear at (w .ring) f p 16)
+    turned-like : (at : ℕ) → Apart (l .table) (tableBytes l) at 4 → (s t shadow f : ℕ) → Like l ret (shadowed s t (turned at shadow f (w .ring))) q
+    turned-like at apart s t shadow f =
+        let o = turned-alone at (w .ring) shadow f in
+        event-like at apart s t (turned at shadow f (w .ring)) (o .same-length) (λ p. o .clear p 16)
 
     armed-like : (at : ℕ) → Apart (l .table) (tableBytes l) at 4 → (s t o : ℕ) (b : Bool) → Like l ret (shadowed s t (armed at o b (w .ring))) q
     armed-like at apart s t o b =
-        event-like at apart s t (armed at o b (w .ring)) (armed-length at (w .ring) o b) (λ p. armed-clear at (w .ring) o b p 16)
+        let a = armed-alone at (w .ring) o b in
+        event-like at apart s t (armed at o b (w .ring)) (a .same-length) (λ p. a .clear p 16)
 
     -- a call of either end whose outcome o is x, answered, with a world behind it that is like the queue
     module _ {O : Type 0} (answerOf : O → Answer) (behind : O → World) where
@@ -120,7 +122,7 @@ module _ (l : Layout) (laid-out : badLayout l ≡ false) where
     used-good : (o x : madeOutcome.Changed) → o ≡ x → x .answer ≡ done [] → Like l ret (afterUsedTurn w x) q → Good l q (saysQuiet true (o .answer)) (afterUsedTurn w o)
     used-good = outcome-good (λ x. x .answer) (afterUsedTurn w)
 
-    p-goes : usedNotices.bytesRefusal (w .prod) (length (w .ring)) ≡ 0
+    p-goes : made.bytesRefusal (w .prod) (length (w .ring)) ≡ 0
     p-goes = makes.bytes-goes (w .prod) (length (w .ring)) (p-sound l laid-out ret w q k) (p-whole l laid-out ret w q k)
 
     -- the record with other flags in its shadow, written out
@@ -129,14 +131,14 @@ module _ (l : Layout) (laid-out : badLayout l ≡ false) where
 
     pub turn-used-good : (f : ℕ) → Good l q (saysQuiet true (usedNotices.turnOf (w .prod) (w .ring) f .answer)) (afterUsedTurn w (usedNotices.turnOf (w .prod) (w .ring) f))
     turn-used-good f =
-        by-eq (w .prod .shadow) f
-        (λ s. used-good _ _ (usedLaws.turn-kept (w .prod) (w .ring) f p-goes s) refl k)
-        (λ s. used-good _ _ (usedLaws.turn-done (w .prod) (w .ring) f p-goes s ∙ p-shadow f _) refl (turned-like (w .prod .layout .driver) driver-apart f (w .cons .shadow) f))
+        used-good _ _ (usedLaws.notice-done (w .prod) (w .ring) f _ p-goes ∙ p-shadow f _) refl
+        (turned-like (w .prod .layout .driver) driver-apart f (w .cons .shadow) (w .prod .shadow) f)
 
     pub arm-used-good :
         (o : ℕ) (b : Bool) → Good l q (saysQuiet true (usedNotices.armOf (w .prod) (w .ring) o b .answer)) (afterUsedTurn w (usedNotices.armOf (w .prod) (w .ring) o b))
     arm-used-good o b =
-        used-good _ _ (usedLaws.arm-done (w .prod) (w .ring) o b p-goes ∙ p-shadow DESC _) refl (armed-like (w .prod .layout .driver) driver-apart DESC (w .cons .shadow) o b)
+        used-good _ _ (usedLaws.notice-done (w .prod) (w .ring) DESC _ p-goes ∙ p-shadow DESC _) refl
+        (armed-like (w .prod .layout .driver) driver-apart DESC (w .cons .shadow) o b)
 
     -- ---- the device's
 
@@ -154,11 +156,11 @@ module _ (l : Layout) (laid-out : badLayout l ≡ false) where
 
     pub turn-avail-good : (f : ℕ) → Good l q (saysQuiet true (availNotices.turnOf (w .cons) (w .ring) f .answer)) (afterAvailTurn w (availNotices.turnOf (w .cons) (w .ring) f))
     turn-avail-good f =
-        by-eq (w .cons .shadow) f
-        (λ s. avail-good _ _ (availLaws.turn-kept (w .cons) (w .ring) f c-goes s) refl k)
-        (λ s. avail-good _ _ (availLaws.turn-done (w .cons) (w .ring) f c-goes s ∙ c-shadow f _) refl (turned-like (w .cons .layout .device) device-apart (w .prod .shadow) f f))
+        avail-good _ _ (availLaws.notice-done (w .cons) (w .ring) f _ c-goes ∙ c-shadow f _) refl
+        (turned-like (w .cons .layout .device) device-apart (w .prod .shadow) f (w .cons .shadow) f)
 
     pub arm-avail-good :
         (o : ℕ) (b : Bool) → Good l q (saysQuiet true (availNotices.armOf (w .cons) (w .ring) o b .answer)) (afterAvailTurn w (availNotices.armOf (w .cons) (w .ring) o b))
     arm-avail-good o b =
-        avail-good _ _ (availLaws.arm-done (w .cons) (w .ring) o b c-goes ∙ c-shadow DESC _) refl (armed-like (w .cons .layout .device) device-apart (w .prod .shadow) DESC o b)
+        avail-good _ _ (availLaws.notice-done (w .cons) (w .ring) DESC _ c-goes ∙ c-shadow DESC _) refl
+        (armed-like (w .cons .layout .device) device-apart (w .prod .shadow) DESC o b)

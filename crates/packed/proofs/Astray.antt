@@ -12,7 +12,9 @@ use lib.ListN.{length}
 use borrow.Author.Tests.{eqb-true}
 use Rattle.base.specs.Answer.{Answer}
 use Rattle.base.proofs.Tests.{split, by-eq}
+use Rattle.event.specs.Event.{DESC}
 use Rattle.ring.specs.Slots.{slotOf}
+use Rattle.producer.specs.Record as madeRecord
 use Rattle.producer.specs.Outcome as made
 use Rattle.producer.specs.Submit.{submitRefusal}
 use Rattle.producer.specs.Poll as usedPoll
@@ -80,19 +82,11 @@ module _ (w : World) where
       (pollLaws.poll-done (w .prod) (w .ring) (w .ids) (w .counts) z ∙ makes.polled-is (w .prod) d (w .ring) (w .ids) (w .counts)))
       (λ z. ap (afterMade w) (pollLaws.poll-refused (w .prod) (w .ring) (w .ids) (w .counts) z)) h
 
-  turn-used-kept : (f : ℕ) → (usedNotices.turnOf (w .prod) (w .ring) f .answer .number ≡ 0 → ⊥) → afterUsedTurn w (usedNotices.turnOf (w .prod) (w .ring) f) ≡ w
-  turn-used-kept f h =
-      kept (usedNotices.turnOf (w .prod) (w .ring) f .answer) (usedNotices.bytesRefusal (w .prod) (length (w .ring))) w (afterUsedTurn w (usedNotices.turnOf (w .prod) (w .ring) f))
-      (λ z. by-eq (w .prod .shadow) f
-      (λ s. ap (λ (o : made.Changed). o .answer .number) (usedLaws.turn-kept (w .prod) (w .ring) f z s))
-      (λ s. ap (λ (o : made.Changed). o .answer .number) (usedLaws.turn-done (w .prod) (w .ring) f z s)))
-      (λ z. ap (afterUsedTurn w) (usedLaws.turn-refused (w .prod) (w .ring) f z)) h
-
-  arm-used-kept : (o : ℕ) (b : Bool) → (usedNotices.armOf (w .prod) (w .ring) o b .answer .number ≡ 0 → ⊥) → afterUsedTurn w (usedNotices.armOf (w .prod) (w .ring) o b) ≡ w
-  arm-used-kept o b h =
-      kept (usedNotices.armOf (w .prod) (w .ring) o b .answer) (usedNotices.bytesRefusal (w .prod) (length (w .ring))) w (afterUsedTurn w (usedNotices.armOf (w .prod) (w .ring) o b))
-      (λ z. ap (λ (x : made.Changed). x .answer .number) (usedLaws.arm-done (w .prod) (w .ring) o b z))
-      (λ z. ap (afterUsedTurn w) (usedLaws.arm-refused (w .prod) (w .ring) o b z)) h
+  notice-used-kept : (f : ℕ) (bytes : List ℕ) → (usedNotices.noticeOf (w .prod) (w .ring) f bytes .answer .number ≡ 0 → ⊥) → afterUsedTurn w (usedNotices.noticeOf (w .prod) (w .ring) f bytes) ≡ w
+  notice-used-kept f bytes h =
+      kept (usedNotices.noticeOf (w .prod) (w .ring) f bytes .answer) (madeRecord.bytesRefusal (w .prod) (length (w .ring))) w (afterUsedTurn w (usedNotices.noticeOf (w .prod) (w .ring) f bytes))
+      (λ z. ap (λ (o : made.Changed). o .answer .number) (usedLaws.notice-done (w .prod) (w .ring) f bytes z))
+      (λ z. ap (afterUsedTurn w) (usedLaws.notice-refused (w .prod) (w .ring) f bytes z)) h
 
   poll-kept : (outs louts : List ℕ) → (pollOf (w .cons) (w .ring) (w .held) outs louts .answer .number ≡ 0 → ⊥) → afterTaken w (pollOf (w .cons) (w .ring) (w .held) outs louts) ≡ w
   poll-kept outs louts h =
@@ -128,19 +122,11 @@ module _ (w : World) where
       (λ f. absurd (h (ap (λ (o : takenOutcome.Rolled). o .answer .number) (rollback-done (w .cons) (w .held) c js z f)))))
       (λ z. ap (afterRolled w) (rollback-stopped (w .cons) (w .held) c js z))
 
-  turn-avail-kept : (f : ℕ) → (availNotices.turnOf (w .cons) (w .ring) f .answer .number ≡ 0 → ⊥) → afterAvailTurn w (availNotices.turnOf (w .cons) (w .ring) f) ≡ w
-  turn-avail-kept f h =
-      kept (availNotices.turnOf (w .cons) (w .ring) f .answer) (takenRecord.bytesRefusal (w .cons) (length (w .ring))) w (afterAvailTurn w (availNotices.turnOf (w .cons) (w .ring) f))
-      (λ z. by-eq (w .cons .shadow) f
-      (λ s. ap (λ (o : takenOutcome.Changed). o .answer .number) (availLaws.turn-kept (w .cons) (w .ring) f z s))
-      (λ s. ap (λ (o : takenOutcome.Changed). o .answer .number) (availLaws.turn-done (w .cons) (w .ring) f z s)))
-      (λ z. ap (afterAvailTurn w) (availLaws.turn-refused (w .cons) (w .ring) f z)) h
-
-  arm-avail-kept : (o : ℕ) (b : Bool) → (availNotices.armOf (w .cons) (w .ring) o b .answer .number ≡ 0 → ⊥) → afterAvailTurn w (availNotices.armOf (w .cons) (w .ring) o b) ≡ w
-  arm-avail-kept o b h =
-      kept (availNotices.armOf (w .cons) (w .ring) o b .answer) (takenRecord.bytesRefusal (w .cons) (length (w .ring))) w (afterAvailTurn w (availNotices.armOf (w .cons) (w .ring) o b))
-      (λ z. ap (λ (x : takenOutcome.Changed). x .answer .number) (availLaws.arm-done (w .cons) (w .ring) o b z))
-      (λ z. ap (afterAvailTurn w) (availLaws.arm-refused (w .cons) (w .ring) o b z)) h
+  notice-avail-kept : (f : ℕ) (bytes : List ℕ) → (availNotices.noticeOf (w .cons) (w .ring) f bytes .answer .number ≡ 0 → ⊥) → afterAvailTurn w (availNotices.noticeOf (w .cons) (w .ring) f bytes) ≡ w
+  notice-avail-kept f bytes h =
+      kept (availNotices.noticeOf (w .cons) (w .ring) f bytes .answer) (takenRecord.bytesRefusal (w .cons) (length (w .ring))) w (afterAvailTurn w (availNotices.noticeOf (w .cons) (w .ring) f bytes))
+      (λ z. ap (λ (o : takenOutcome.Changed). o .answer .number) (availLaws.notice-done (w .cons) (w .ring) f bytes z))
+      (λ z. ap (afterAvailTurn w) (availLaws.notice-refused (w .cons) (w .ring) f bytes z)) h
 
   -- any call, given anything: where it is refused, nothing that it was lent differs and the record is as it was
   pub refused-leaves : (c : Own) → (numberOf (ownSays w c) ≡ 0 → ⊥) → ownLeaves w c ≡ w
@@ -153,9 +139,9 @@ module _ (w : World) where
   refused-leaves nextId h = refl
   refused-leaves (producerAsked x) h = refl
   refused-leaves (shouldNotifySince c) h = refl
-  refused-leaves (turnUsed f) h = turn-used-kept f (λ z. h (either-number (usedNotices.turnOf (w .prod) (w .ring) f .answer) (said.looked said.quiet) said.other true refl ∙ z))
-  refused-leaves (enableUsedDesc o b) h = arm-used-kept o b (λ z. h (either-number (usedNotices.armOf (w .prod) (w .ring) o b .answer) (said.looked said.quiet) said.other true refl ∙ z))
-  refused-leaves enableUsedForNext h = arm-used-kept (w .prod .used .head) (w .prod .used .wrap) (λ z. h (either-number (usedNotices.armOf (w .prod) (w .ring) (w .prod .used .head) (w .prod .used .wrap) .answer) (said.looked said.quiet) said.other true refl ∙ z))
+  refused-leaves (turnUsed f) h = notice-used-kept f _ (λ z. h (either-number (usedNotices.turnOf (w .prod) (w .ring) f .answer) (said.looked said.quiet) said.other true refl ∙ z))
+  refused-leaves (enableUsedDesc o b) h = notice-used-kept DESC _ (λ z. h (either-number (usedNotices.armOf (w .prod) (w .ring) o b .answer) (said.looked said.quiet) said.other true refl ∙ z))
+  refused-leaves enableUsedForNext h = notice-used-kept DESC _ (λ z. h (either-number (usedNotices.armOf (w .prod) (w .ring) (w .prod .used .head) (w .prod .used .wrap) .answer) (said.looked said.quiet) said.other true refl ∙ z))
   refused-leaves (pollAvailable a b) h = poll-kept a b (λ z. h (either-number (pollOf (w .cons) (w .ring) (w .held) a b .answer) _ _ _ refl ∙ z))
   refused-leaves (submitUsed i n) h = complete-kept i n (λ z. h (either-number (completeOf (w .cons) (w .ring) (w .held) i n .answer) _ _ _ refl ∙ z))
   refused-leaves (submitUsedWithNotify i n) h = complete-tell-kept i n (λ z. h (either-number (tellOf (w .cons .used) (completeOf (w .cons) (w .ring) (w .held) i n) .answer) _ _ _ refl ∙ z))
@@ -163,9 +149,9 @@ module _ (w : World) where
   refused-leaves pollCheckpoint h = refl
   refused-leaves (rollbackPolls c js) h = roll-kept c js (λ z. h (either-number (rollbackOf (w .cons) (w .held) c js .answer) _ _ _ refl ∙ z))
   refused-leaves (consumerAsked x) h = refl
-  refused-leaves (turnAvail f) h = turn-avail-kept f (λ z. h (either-number (availNotices.turnOf (w .cons) (w .ring) f .answer) (said.looked said.quiet) said.other true refl ∙ z))
-  refused-leaves (enableAvailDesc o b) h = arm-avail-kept o b (λ z. h (either-number (availNotices.armOf (w .cons) (w .ring) o b .answer) (said.looked said.quiet) said.other true refl ∙ z))
-  refused-leaves enableAvailForNext h = arm-avail-kept (w .cons .avail .head) (w .cons .avail .wrap) (λ z. h (either-number (availNotices.armOf (w .cons) (w .ring) (w .cons .avail .head) (w .cons .avail .wrap) .answer) (said.looked said.quiet) said.other true refl ∙ z))
+  refused-leaves (turnAvail f) h = notice-avail-kept f _ (λ z. h (either-number (availNotices.turnOf (w .cons) (w .ring) f .answer) (said.looked said.quiet) said.other true refl ∙ z))
+  refused-leaves (enableAvailDesc o b) h = notice-avail-kept DESC _ (λ z. h (either-number (availNotices.armOf (w .cons) (w .ring) o b .answer) (said.looked said.quiet) said.other true refl ∙ z))
+  refused-leaves enableAvailForNext h = notice-avail-kept DESC _ (λ z. h (either-number (availNotices.armOf (w .cons) (w .ring) (w .cons .avail .head) (w .cons .avail .wrap) .answer) (said.looked said.quiet) said.other true refl ∙ z))
 
 -- "Calls refused for bad records or buffers aren't counted": a call given a foreign record, tables or bytes and answered 7 or 8 leaves all that
 -- it was given as it was, so nothing has to be put back before the end gets its own last again

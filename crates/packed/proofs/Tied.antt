@@ -15,14 +15,12 @@ use Rattle.producer.specs.Outcome as made
 use Rattle.producer.specs.Submit as submits
 use Rattle.producer.specs.Tell as tells
 use Rattle.producer.specs.Poll as reclaims
-use Rattle.producer.specs.Notices as usedNotices
 use Rattle.consumer.specs.declared.RingConsumer.{RingConsumer}
 use Rattle.consumer.specs.declared.Checkpoint.{Checkpoint}
 use Rattle.consumer.specs.Outcome as takenOutcome
 use Rattle.consumer.specs.Poll as polls
 use Rattle.consumer.specs.Complete as completes
 use Rattle.consumer.specs.Rollback as rollbacks
-use Rattle.consumer.specs.Notices as availNotices
 use Rattle.queue.specs.History.{Event}
 use Rattle.packed.specs.Calls.{Own, oneOf}
 use Rattle.packed.specs.Calls.{producerNumFree, producerNumInflight, producerIsFull, producerLen, producerDescTable, producerAvailCursor, producerUsedCursor, consumerNumFree, consumerNumInflight, consumerIsFull, consumerLen, consumerAvailCursor, consumerUsedCursor}
@@ -79,11 +77,11 @@ abbrev withConsumer : World → RingConsumer → List ℕ → List ℕ → World
 withConsumer w p r k = record { prod = w .prod; ids = w .ids; counts = w .counts; cons = p; held = k; ring = r }
 
 module _ (w : World) where
-  pub made-submit-one-tied : Ties made-submit-one.Post (λ a r s. Step (withProducer w (a .0) (now (a .1 .0)) (now (a .1 .1 .0)) (now (a .1 .1 .1 .0))) (submitOne (a .1 .1 .1 .1 .0) (a .1 .1 .1 .1 .1 .0) (a .1 .1 .1 .1 .1 .1 .0)) (saysSubmitted (oneOf (a .1 .1 .1 .1 .0) (a .1 .1 .1 .1 .1 .0) (a .1 .1 .1 .1 .1 .1 .0)) (submits.answerOf r)) (withProducer w (submits.recordOf r) (now (s .1 .0)) (now (a .1 .1 .0)) (now (s .1 .1 .1 .0))))
+  pub made-submit-one-tied : Ties made-submit-one.Post (λ a r s. Step (withProducer w (a .0) (now (a .1 .0)) (now (a .1 .1 .0)) (now (a .1 .1 .1 .0))) (submitOne (a .1 .1 .1 .1 .0) (a .1 .1 .1 .1 .1 .0) (a .1 .1 .1 .1 .1 .1 .0)) (saysSubmitted (oneOf (a .1 .1 .1 .1 .0) (a .1 .1 .1 .1 .1 .0) (a .1 .1 .1 .1 .1 .1 .0)) (submits.submittedAnswer r)) (withProducer w (submits.submittedRecord r) (now (s .1 .0)) (now (a .1 .1 .0)) (now (s .1 .1 .1 .0))))
   unfolding ownSays ownLeaves
   made-submit-one-tied κ a r s p = (ap (λ (o : made.Outcome). saysSubmitted (oneOf (a .1 .1 .1 .1 .0) (a .1 .1 .1 .1 .1 .0) (a .1 .1 .1 .1 .1 .1 .0)) (o .answer)) (sym p), ap (afterMade (withProducer w (a .0) (now (a .1 .0)) (now (a .1 .1 .0)) (now (a .1 .1 .1 .0)))) (sym p))
 
-  pub made-submit-available-tied : Ties made-submit-available.Post (λ a r s. Step (withProducer w (a .0) (now (a .1 .0)) (now (a .1 .1 .0)) (now (a .1 .1 .1 .0))) (submitAvailable (record { addrs = (now (a .1 .1 .1 .1 .0)); lens = (now (a .1 .1 .1 .1 .1 .0)); readable = (a .1 .1 .1 .1 .1 .1 .0) })) (saysSubmitted (record { addrs = (now (a .1 .1 .1 .1 .0)); lens = (now (a .1 .1 .1 .1 .1 .0)); readable = (a .1 .1 .1 .1 .1 .1 .0) }) (submits.answerOf r)) (withProducer w (submits.recordOf r) (now (s .1 .0)) (now (a .1 .1 .0)) (now (s .1 .1 .1 .0))))
+  pub made-submit-available-tied : Ties made-submit-available.Post (λ a r s. Step (withProducer w (a .0) (now (a .1 .0)) (now (a .1 .1 .0)) (now (a .1 .1 .1 .0))) (submitAvailable (record { addrs = (now (a .1 .1 .1 .1 .0)); lens = (now (a .1 .1 .1 .1 .1 .0)); readable = (a .1 .1 .1 .1 .1 .1 .0) })) (saysSubmitted (record { addrs = (now (a .1 .1 .1 .1 .0)); lens = (now (a .1 .1 .1 .1 .1 .0)); readable = (a .1 .1 .1 .1 .1 .1 .0) }) (submits.submittedAnswer r)) (withProducer w (submits.submittedRecord r) (now (s .1 .0)) (now (a .1 .1 .0)) (now (s .1 .1 .1 .0))))
   unfolding ownSays ownLeaves
   made-submit-available-tied κ a r s p = (ap (λ (o : made.Outcome). saysSubmitted (record { addrs = (now (a .1 .1 .1 .1 .0)); lens = (now (a .1 .1 .1 .1 .1 .0)); readable = (a .1 .1 .1 .1 .1 .1 .0) }) (o .answer)) (sym p), ap (afterMade (withProducer w (a .0) (now (a .1 .0)) (now (a .1 .1 .0)) (now (a .1 .1 .1 .0)))) (sym p))
 
@@ -95,7 +93,7 @@ module _ (w : World) where
   unfolding ownSays ownLeaves
   made-submit-one-with-notify-tied κ a r s p = (ap (λ (o : made.Outcome). saysSubmitted (oneOf (a .1 .1 .1 .1 .0) (a .1 .1 .1 .1 .1 .0) (a .1 .1 .1 .1 .1 .1 .0)) (o .answer)) (sym p), ap (afterMade (withProducer w (a .0) (now (a .1 .0)) (now (a .1 .1 .0)) (now (a .1 .1 .1 .0)))) (sym p))
 
-  pub made-poll-used-tied : Ties made-poll-used.Post (λ a r s. Step (withProducer w (a .0) (now (a .1 .0)) (now (a .1 .1 .0)) (now (a .1 .1 .1 .0))) pollUsed (saysReclaimed (reclaims.usedAnswer r)) (withProducer w (reclaims.usedRecord r) (now (a .1 .0)) (now (s .1 .1 .0)) (now (s .1 .1 .1 .0))))
+  pub made-poll-used-tied : Ties made-poll-used.Post (λ a r s. Step (withProducer w (a .0) (now (a .1 .0)) (now (a .1 .1 .0)) (now (a .1 .1 .1 .0))) pollUsed (saysReclaimed (reclaims.polledAnswer r)) (withProducer w (reclaims.polledRecord r) (now (a .1 .0)) (now (s .1 .1 .0)) (now (s .1 .1 .1 .0))))
   unfolding ownSays ownLeaves
   made-poll-used-tied κ a r s p = (ap (λ (o : made.Outcome). saysReclaimed (o .answer)) (sym p), ap (afterMade (withProducer w (a .0) (now (a .1 .0)) (now (a .1 .1 .0)) (now (a .1 .1 .1 .0)))) (sym p))
 
@@ -135,19 +133,19 @@ module _ (w : World) where
   unfolding ownSays ownLeaves
   made-should-notify-since-tied κ a r s p = (ap (saysQuiet (ltb ((a .1 .1 .0) .head) (a .0 .layout .size))) (sym p), refl)
 
-  pub made-disable-used-notifications-tied : Ties made-disable-used-notifications.Post (λ a r s. Step (withProducer w (a .0) (now (a .1 .0)) (w .ids) (w .counts)) (turnUsed DISABLE) (saysQuiet true (usedNotices.turnAnswer r)) (withProducer w (usedNotices.turnRecord r) (now (s .1 .0)) (w .ids) (w .counts)))
+  pub made-disable-used-notifications-tied : Ties made-disable-used-notifications.Post (λ a r s. Step (withProducer w (a .0) (now (a .1 .0)) (w .ids) (w .counts)) (turnUsed DISABLE) (saysQuiet true (made.answerOf r)) (withProducer w (made.recordOf r) (now (s .1 .0)) (w .ids) (w .counts)))
   unfolding ownSays ownLeaves
   made-disable-used-notifications-tied κ a r s p = (ap (λ (o : made.Changed). saysQuiet true (o .answer)) (sym p), ap (afterUsedTurn (withProducer w (a .0) (now (a .1 .0)) (w .ids) (w .counts))) (sym p))
 
-  pub made-enable-used-notifications-tied : Ties made-enable-used-notifications.Post (λ a r s. Step (withProducer w (a .0) (now (a .1 .0)) (w .ids) (w .counts)) (turnUsed ENABLE) (saysQuiet true (usedNotices.turnAnswer r)) (withProducer w (usedNotices.turnRecord r) (now (s .1 .0)) (w .ids) (w .counts)))
+  pub made-enable-used-notifications-tied : Ties made-enable-used-notifications.Post (λ a r s. Step (withProducer w (a .0) (now (a .1 .0)) (w .ids) (w .counts)) (turnUsed ENABLE) (saysQuiet true (made.answerOf r)) (withProducer w (made.recordOf r) (now (s .1 .0)) (w .ids) (w .counts)))
   unfolding ownSays ownLeaves
   made-enable-used-notifications-tied κ a r s p = (ap (λ (o : made.Changed). saysQuiet true (o .answer)) (sym p), ap (afterUsedTurn (withProducer w (a .0) (now (a .1 .0)) (w .ids) (w .counts))) (sym p))
 
-  pub made-enable-used-notifications-desc-tied : Ties made-enable-used-notifications-desc.Post (λ a r s. Step (withProducer w (a .0) (now (a .1 .0)) (w .ids) (w .counts)) (enableUsedDesc (a .1 .1 .0) (a .1 .1 .1 .0)) (saysQuiet true (usedNotices.turnAnswer r)) (withProducer w (usedNotices.turnRecord r) (now (s .1 .0)) (w .ids) (w .counts)))
+  pub made-enable-used-notifications-desc-tied : Ties made-enable-used-notifications-desc.Post (λ a r s. Step (withProducer w (a .0) (now (a .1 .0)) (w .ids) (w .counts)) (enableUsedDesc (a .1 .1 .0) (a .1 .1 .1 .0)) (saysQuiet true (made.answerOf r)) (withProducer w (made.recordOf r) (now (s .1 .0)) (w .ids) (w .counts)))
   unfolding ownSays ownLeaves
   made-enable-used-notifications-desc-tied κ a r s p = (ap (λ (o : made.Changed). saysQuiet true (o .answer)) (sym p), ap (afterUsedTurn (withProducer w (a .0) (now (a .1 .0)) (w .ids) (w .counts))) (sym p))
 
-  pub made-enable-used-notifications-for-next-tied : Ties made-enable-used-notifications-for-next.Post (λ a r s. Step (withProducer w (a .0) (now (a .1 .0)) (w .ids) (w .counts)) enableUsedForNext (saysQuiet true (usedNotices.turnAnswer r)) (withProducer w (usedNotices.turnRecord r) (now (s .1 .0)) (w .ids) (w .counts)))
+  pub made-enable-used-notifications-for-next-tied : Ties made-enable-used-notifications-for-next.Post (λ a r s. Step (withProducer w (a .0) (now (a .1 .0)) (w .ids) (w .counts)) enableUsedForNext (saysQuiet true (made.answerOf r)) (withProducer w (made.recordOf r) (now (s .1 .0)) (w .ids) (w .counts)))
   unfolding ownSays ownLeaves
   made-enable-used-notifications-for-next-tied κ a r s p = (ap (λ (o : made.Changed). saysQuiet true (o .answer)) (sym p), ap (afterUsedTurn (withProducer w (a .0) (now (a .1 .0)) (w .ids) (w .counts))) (sym p))
 

@@ -8,7 +8,7 @@ use Rattle.notify.proofs.Fixed.{answer-same}
 use Rattle.ring.specs.Asked.{countAnswer, boolAnswer, cursorAnswer, tableAnswer}
 use Rattle.ring.proofs.Asked.{count-same, bool-same, cursor-same, table-same}
 use Rattle.producer.specs.Poll.{nextAnswer}
-use Rattle.producer.proofs.Same.{none, without-ids, without-ring, submitted-seen, submitted-all, told-seen, told-all, polled-seen, polled-all, reset-seen, reset-all, turned-seen, turned-all, opened-seen, opened-all, next-same}
+use Rattle.producer.proofs.Same.{none, without-ids, without-ring, submitted-seen, submitted-all, told-seen, told-all, polled-seen, polled-all, answered-seen, answered-all, changed-seen, changed-all, opened-seen, opened-all, next-same}
 use Rattle.producer.proofs.RingProducer.new.Reads as new
 use Rattle.producer.proofs.RingProducer.submit_one.Reads as submit-one
 use Rattle.producer.proofs.RingProducer.submit_available.Reads as submit-available
@@ -76,16 +76,16 @@ pub should-notify-since-fixed : Determined should-notify-since.Post (λ r s. r)
 should-notify-since-fixed = by-answer _ _ notified.answerOf answer-same _ (λ κ a r s p. p)
 
 pub disable-used-notifications-fixed : Determined disable-used-notifications.Post (λ r s. both r (now (s .1 .0)))
-disable-used-notifications-fixed = by-answer _ _ turned-seen turned-all _ (λ κ a r s p. p)
+disable-used-notifications-fixed = by-answer _ _ changed-seen changed-all _ (λ κ a r s p. p)
 
 pub enable-used-notifications-fixed : Determined enable-used-notifications.Post (λ r s. both r (now (s .1 .0)))
-enable-used-notifications-fixed = by-answer _ _ turned-seen turned-all _ (λ κ a r s p. p)
+enable-used-notifications-fixed = by-answer _ _ changed-seen changed-all _ (λ κ a r s p. p)
 
 pub enable-used-notifications-desc-fixed : Determined enable-used-notifications-desc.Post (λ r s. both r (now (s .1 .0)))
-enable-used-notifications-desc-fixed = by-answer _ _ turned-seen turned-all _ (λ κ a r s p. p)
+enable-used-notifications-desc-fixed = by-answer _ _ changed-seen changed-all _ (λ κ a r s p. p)
 
 pub enable-used-notifications-for-next-fixed : Determined enable-used-notifications-for-next.Post (λ r s. both r (now (s .1 .0)))
-enable-used-notifications-for-next-fixed = by-answer _ _ turned-seen turned-all _ (λ κ a r s p. p)
+enable-used-notifications-for-next-fixed = by-answer _ _ changed-seen changed-all _ (λ κ a r s p. p)
 
 pub reset-fixed : Determined reset.Post (λ r s. both r (both (now (s .1 .0)) (both (now (s .1 .1 .0)) (now (s .1 .1 .1 .0)))))
-reset-fixed = by-answer _ _ reset-seen reset-all _ (λ κ a r s p. p)
+reset-fixed = by-answer _ _ answered-seen answered-all _ (λ κ a r s p. p)

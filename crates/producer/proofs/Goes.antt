@@ -19,12 +19,12 @@ use Rattle.layout.specs.declared.Layout.{Layout}
 use Rattle.layout.specs.Layout.{badLayout, outside}
 use Rattle.chain.specs.Chain.{badChain}
 use Rattle.producer.specs.declared.RingProducer.{RingProducer}
-use Rattle.producer.specs.Record.{badRecord, badLent}
+use Rattle.producer.specs.Record.{badRecord, badLent, bytesRefusal}
 use Rattle.producer.specs.Outcome.{Outcome, outcome}
 use Rattle.producer.specs.Submit.{topOf, submitRefusal, takenOf, submittedOf, Written}
 use Rattle.producer.specs.Tell.{tellOf}
 use Rattle.producer.specs.Poll.{pollRefusal, freedOf, polledOf, nextRefusal}
-use Rattle.producer.specs.Notices.{bytesRefusal, sinceRefusal, shadowOf}
+use Rattle.producer.specs.Notices.{sinceRefusal, shadowOf}
 use Rattle.producer.specs.Fresh.{freshOf}
 
 pub not-bad :

@@ -3,7 +3,7 @@
 use Prim.Native.Nat.{ℕ, _<_}
 use mathlib.Core.Path.{_≡_}
 use mathlib.Core.List.{List, [], _∷_}
-use mathlib.Core.Bool.{Bool, _||_}
+use mathlib.Core.Bool.{_||_}
 use native.Mathlib.Omega.{arith}
 use lib.Dec.{leb}
 use lib.ListN.{length}
@@ -13,27 +13,15 @@ use Rattle.cursor.specs.declared.RingCursor.{RingCursor}
 use Rattle.layout.specs.Layout.{outside}
 use Rattle.layout.proofs.Laws.{Within, within}
 use Rattle.producer.specs.declared.RingProducer.{RingProducer}
-use Rattle.producer.specs.Record.{badRecord}
+use Rattle.producer.specs.Record.{badRecord, bytesRefusal}
 use Rattle.producer.specs.Outcome.{changed}
 use Rattle.producer.proofs.Ready.{Sound, sound}
 use Rattle.base.proofs.Tests.{neither}
 use Rattle.base.proofs.Ladder.{passed, cond-lt}
-use Rattle.event.specs.Event.{DESC}
-use Rattle.ring.specs.Events.{turned, armed, told}
-use Rattle.producer.specs.Notices.{bytesRefusal, sinceRefusal, shadowOf, turnOf, armOf, sinceOf}
+use Rattle.ring.specs.Events.{told}
+use Rattle.producer.specs.Notices.{sinceRefusal, shadowOf, noticeOf, sinceOf}
 
--- what a call that is lent the bytes alone may count on, and one that is handed a cursor too
-pub record BytesReady (p : RingProducer) (bytes : ℕ) : Type 0 where
-  pub sound : Sound p
-  pub bytes-whole : Within (p .layout) bytes
-
-pub bytes-ready : (p : RingProducer) (bytes : ℕ) → bytesRefusal p bytes ≡ 0 → BytesReady p bytes
-unfolding bytesRefusal
-bytes-ready p bytes e =
-    let e₁ = passed (badRecord p) 7 _ (omega arith) e in
-    let e₂ = passed (outside (p .layout) bytes) 8 0 (omega arith) (e₁ .1) in
-    record { sound = sound p (e₁ .0); bytes-whole = within (p .layout) bytes (e₂ .0) }
-
+-- what a call that is lent the bytes and handed a cursor may count on
 pub record SinceReady (p : RingProducer) (bytes : ℕ) (old : RingCursor) : Type 0 where
   pub sound : Sound p
   pub old-below : old .head < p .layout .size
@@ -51,44 +39,23 @@ since-ready p bytes old e =
       bytes-whole = within (p .layout) bytes (e₂ .0);
     }
 
-pub bytes-below : (p : RingProducer) (bytes : ℕ) → bytesRefusal p bytes < 9
-unfolding bytesRefusal
-bytes-below p bytes =
-    cond-lt (badRecord p) 7 _ (omega arith) (cond-lt (outside (p .layout) bytes) 8 0 (omega arith) (omega arith))
-
 pub since-below : (p : RingProducer) (bytes : ℕ) (old : RingCursor) → sinceRefusal p bytes old < 9
 unfolding sinceRefusal
 since-below p bytes old =
     cond-lt (badRecord p || leb (p .layout .size) (old .head)) 7 _ (omega arith)
     (cond-lt (outside (p .layout) bytes) 8 0 (omega arith) (omega arith))
 
-module _ (p : RingProducer) (ring : List ℕ) where
+module _ (p : RingProducer) (ring : List ℕ) (flags : ℕ) (bytes : List ℕ) where
   abbrev no : ℕ
   no = bytesRefusal p (length ring)
 
-  pub turn-refused : (flags : ℕ) → (no ≡ 0 → ⊥) → turnOf p ring flags ≡ changed (refused no) p ring
-  unfolding turnOf
-  turn-refused flags h = simp (ne-eqb no 0 h)
+  pub notice-refused : (no ≡ 0 → ⊥) → noticeOf p ring flags bytes ≡ changed (refused no) p ring
+  unfolding noticeOf
+  notice-refused h = simp (ne-eqb no 0 h)
 
-  pub turn-kept : (flags : ℕ) → no ≡ 0 → p .shadow ≡ flags → turnOf p ring flags ≡ changed (done []) p ring
-  unfolding turnOf
-  turn-kept flags h s = simp (eq-eqb no 0 h, eq-eqb (p .shadow) flags s)
-
-  pub turn-done :
-      (flags : ℕ) → no ≡ 0 → (p .shadow ≡ flags → ⊥)
-      → turnOf p ring flags ≡ changed (done []) (shadowOf p flags) (turned (p .layout .driver) flags ring)
-  unfolding turnOf
-  turn-done flags h s = simp (eq-eqb no 0 h, ne-eqb (p .shadow) flags s)
-
-  pub arm-refused : (off : ℕ) (wrap : Bool) → (no ≡ 0 → ⊥) → armOf p ring off wrap ≡ changed (refused no) p ring
-  unfolding armOf
-  arm-refused off wrap h = simp (ne-eqb no 0 h)
-
-  pub arm-done :
-      (off : ℕ) (wrap : Bool) → no ≡ 0
-      → armOf p ring off wrap ≡ changed (done []) (shadowOf p DESC) (armed (p .layout .driver) off wrap ring)
-  unfolding armOf
-  arm-done off wrap h = simp (eq-eqb no 0 h)
+  pub notice-done : no ≡ 0 → noticeOf p ring flags bytes ≡ changed (done []) (shadowOf p flags) bytes
+  unfolding noticeOf
+  notice-done h = simp (eq-eqb no 0 h)
 
 module _ (p : RingProducer) (ring : List ℕ) (old : RingCursor) where
   pub since-refused : (sinceRefusal p (length ring) old ≡ 0 → ⊥) → sinceOf p ring old ≡ refused (sinceRefusal p (length ring) old)

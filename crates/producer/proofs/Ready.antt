@@ -1,22 +1,17 @@
--- What a call that is not refused may count on.
+-- What a call that is not refused may count on, of its record and what it is lent.
 -- Assumes nothing.
 use Prim.Native.Nat.{ℕ, _≤_, _<_}
 use mathlib.Core.Path.{_≡_}
-use mathlib.Core.List.{List}
-use mathlib.Core.Bool.{false, _||_}
+use mathlib.Core.Bool.{false}
 use native.Mathlib.Omega.{arith}
-use lib.Dec.{ltb, leb, eqb}
-use lib.ListN.{length, getD}
-use borrow.Author.Tests.{eqb-true, eqb-false, ltb-false, leb-false, not-false}
-use Rattle.base.proofs.Ladder.{passed}
-use Rattle.base.proofs.Tests.{neither, positive}
+use lib.Dec.{ltb, leb}
+use borrow.Author.Tests.{ltb-false, leb-false}
+use Rattle.base.proofs.Ladder.{cond-lt, passed}
+use Rattle.base.proofs.Tests.{neither}
 use Rattle.layout.specs.Layout.{badLayout, outside}
 use Rattle.layout.proofs.Laws.{Laid, laid, Within, within}
-use Rattle.chain.specs.Chain.{badChain}
-use Rattle.chain.proofs.Laws.{Good, good}
 use Rattle.producer.specs.declared.RingProducer.{RingProducer}
-use Rattle.producer.specs.Record.{badRecord, badLent}
-use Rattle.producer.specs.Submit.{topOf, submitRefusal}
+use Rattle.producer.specs.Record.{badRecord, badLent, bytesRefusal, lentRefusal}
 
 -- none of 7's conditions holds of the record
 pub record Sound (p : RingProducer) : Type 0 where
@@ -58,36 +53,35 @@ lent p bytes ids counts e =
       counts-whole = ltb-false counts (p .layout .size) (b .1);
     }
 
--- what a submission that is not refused may count on
-module _ (p : RingProducer) (bytes : ℕ) (ids counts : List ℕ) (n lens readable : ℕ) where
-  pub record Ready : Type 0 where
-    pub sound : Sound p
-    pub lent : Lent p bytes (length ids) (length counts)
-    pub chain : Good n lens readable
-    pub elements : 0 < n
-    pub room : n ≤ p .free
-    pub stack : 0 < p .height
-    pub id : topOf p ids < p .layout .size
-    pub unheld : getD counts (topOf p ids) 0 ≡ 0
+-- what a call that is lent the bytes alone, and one that is lent both tables too, may count on
+pub record BytesReady (p : RingProducer) (bytes : ℕ) : Type 0 where
+  pub sound : Sound p
+  pub bytes-whole : Within (p .layout) bytes
 
-  pub ready : submitRefusal p bytes ids counts n lens readable ≡ 0 → Ready
-  unfolding submitRefusal
-  ready e =
-      let e₁ = passed (badRecord p) 7 _ (omega arith) e in
-      let e₂ = passed (badLent p bytes (length ids) (length counts) || badChain n lens readable) 8 _ (omega arith) (e₁ .1) in
-      let e₃ = passed (eqb n 0) 1 _ (omega arith) (e₂ .1) in
-      let e₄ = passed (ltb (p .free) n) 3 _ (omega arith) (e₃ .1) in
-      let e₅ = passed (eqb (p .height) 0) 4 _ (omega arith) (e₄ .1) in
-      let e₆ = passed _ 5 0 (omega arith) (e₅ .1) in
-      let l = neither (badLent p bytes (length ids) (length counts)) _ (e₂ .0) in
-      let i = neither (leb (p .layout .size) (topOf p ids)) _ (e₆ .0) in
-      record {
-        sound = sound p (e₁ .0);
-        lent = lent p bytes (length ids) (length counts) (l .0);
-        chain = good n lens readable (l .1);
-        elements = positive (eqb-false n 0 (e₃ .0));
-        room = ltb-false (p .free) n (e₄ .0);
-        stack = positive (eqb-false (p .height) 0 (e₅ .0));
-        id = leb-false (p .layout .size) (topOf p ids) (i .0);
-        unheld = eqb-true (getD counts (topOf p ids) 0) 0 (not-false (eqb (getD counts (topOf p ids) 0) 0) (i .1));
-      }
+pub bytes-ready : (p : RingProducer) (bytes : ℕ) → bytesRefusal p bytes ≡ 0 → BytesReady p bytes
+unfolding bytesRefusal
+bytes-ready p bytes e =
+    let e₁ = passed (badRecord p) 7 _ (omega arith) e in
+    let e₂ = passed (outside (p .layout) bytes) 8 0 (omega arith) (e₁ .1) in
+    record { sound = sound p (e₁ .0); bytes-whole = within (p .layout) bytes (e₂ .0) }
+
+pub record LentReady (p : RingProducer) (bytes ids counts : ℕ) : Type 0 where
+  pub sound : Sound p
+  pub lent : Lent p bytes ids counts
+
+pub lent-ready : (p : RingProducer) (bytes ids counts : ℕ) → lentRefusal p bytes ids counts ≡ 0 → LentReady p bytes ids counts
+unfolding lentRefusal
+lent-ready p bytes ids counts e =
+    let e₁ = passed (badRecord p) 7 _ (omega arith) e in
+    let e₂ = passed (badLent p bytes ids counts) 8 0 (omega arith) (e₁ .1) in
+    record { sound = sound p (e₁ .0); lent = lent p bytes ids counts (e₂ .0) }
+
+pub bytes-below : (p : RingProducer) (bytes : ℕ) → bytesRefusal p bytes < 9
+unfolding bytesRefusal
+bytes-below p bytes =
+    cond-lt (badRecord p) 7 _ (omega arith) (cond-lt (outside (p .layout) bytes) 8 0 (omega arith) (omega arith))
+
+pub lent-below : (p : RingProducer) (bytes ids counts : ℕ) → lentRefusal p bytes ids counts < 9
+unfolding lentRefusal
+lent-below p bytes ids counts =
+    cond-lt (badRecord p) 7 _ (omega arith) (cond-lt (badLent p bytes ids counts) 8 0 (omega arith) (omega arith))

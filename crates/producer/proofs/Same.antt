@@ -18,15 +18,14 @@ use Rattle.producer.specs.declared.PolledUsed.{PolledUsed}
 use Rattle.producer.specs.declared.PolledUsed.the-variants as polled
 use Rattle.producer.specs.declared.NextId.{NextId}
 use Rattle.producer.specs.declared.NextId.the-variants as next
-use Rattle.producer.specs.declared.Turned.{Turned}
-use Rattle.producer.specs.declared.Turned.the-variants as turned
+use Rattle.producer.specs.declared.Answered.{Answered}
+use Rattle.producer.specs.declared.Answered.the-variants as answered
 use Rattle.producer.specs.declared.Opened.{Opened}
 use Rattle.producer.specs.declared.Opened.the-variants as opening
-use Rattle.producer.specs.Outcome.{Outcome, outcome, Changed, changed}
-use Rattle.producer.specs.Submit.{answerOf, recordOf}
+use Rattle.producer.specs.Outcome.{Outcome, outcome, Changed, changed, answerOf, recordOf}
+use Rattle.producer.specs.Submit.{submittedAnswer, submittedRecord}
 use Rattle.producer.specs.Tell.{toldAnswer, toldRecord}
-use Rattle.producer.specs.Poll.{usedAnswer, usedRecord, nextAnswer}
-use Rattle.producer.specs.Notices.{turnAnswer, turnRecord}
+use Rattle.producer.specs.Poll.{polledAnswer, polledRecord, nextAnswer}
 use Rattle.producer.specs.Fresh.{Open, opened, openedAnswer}
 
 abbrev number : Answer → ℕ
@@ -35,7 +34,7 @@ number a = a .number
 abbrev value : ℕ → Answer → ℕ
 value i a = getD (a .values) i 0
 
-pub submitted-same : (x y : Submitted) → answerOf x ≡ answerOf y → recordOf x ≡ recordOf y → x ≡ y
+pub submitted-same : (x y : Submitted) → submittedAnswer x ≡ submittedAnswer y → submittedRecord x ≡ submittedRecord y → x ≡ y
 submitted-same (submitted.Id m p) (submitted.Id n q) h r = ap₂ submitted.Id (ap (value 0) h) r
 submitted-same (submitted.Id m p) (submitted.Refused e q) h r = absurd (omega (arith, ap number h, number-low e))
 submitted-same (submitted.Refused e p) (submitted.Id n q) h r = absurd (omega (arith, ap number h, number-low e))
@@ -48,17 +47,17 @@ told-same (told.Result a p) (told.Refused e q) h r = absurd (omega (arith, ap nu
 told-same (told.Refused e p) (told.Result b q) h r = absurd (omega (arith, ap number h, number-low e))
 told-same (told.Refused e p) (told.Refused f q) h r = ap₂ told.Refused (number-same e f (ap number h)) r
 
-pub polled-same : (x y : PolledUsed) → usedAnswer x ≡ usedAnswer y → usedRecord x ≡ usedRecord y → x ≡ y
+pub polled-same : (x y : PolledUsed) → polledAnswer x ≡ polledAnswer y → polledRecord x ≡ polledRecord y → x ≡ y
 polled-same (polled.Used a p) (polled.Used b q) h r = λ i. polled.Used (record { id = value 0 (h i); len = value 1 (h i) }) (r i)
 polled-same (polled.Used a p) (polled.Refused e q) h r = absurd (omega (arith, ap number h, number-low e))
 polled-same (polled.Refused e p) (polled.Used b q) h r = absurd (omega (arith, ap number h, number-low e))
 polled-same (polled.Refused e p) (polled.Refused f q) h r = ap₂ polled.Refused (number-same e f (ap number h)) r
 
-pub turned-same : (x y : Turned) → turnAnswer x ≡ turnAnswer y → turnRecord x ≡ turnRecord y → x ≡ y
-turned-same (turned.Done p) (turned.Done q) h r = ap turned.Done r
-turned-same (turned.Done p) (turned.Refused e q) h r = absurd (omega (arith, ap number h, number-low e))
-turned-same (turned.Refused e p) (turned.Done q) h r = absurd (omega (arith, ap number h, number-low e))
-turned-same (turned.Refused e p) (turned.Refused f q) h r = ap₂ turned.Refused (number-same e f (ap number h)) r
+pub answered-same : (x y : Answered) → answerOf x ≡ answerOf y → recordOf x ≡ recordOf y → x ≡ y
+answered-same (answered.Done p) (answered.Done q) h r = ap answered.Done r
+answered-same (answered.Done p) (answered.Refused e q) h r = absurd (omega (arith, ap number h, number-low e))
+answered-same (answered.Refused e p) (answered.Done q) h r = absurd (omega (arith, ap number h, number-low e))
+answered-same (answered.Refused e p) (answered.Refused f q) h r = ap₂ answered.Refused (number-same e f (ap number h)) r
 
 pub next-same : (x y : NextId) → nextAnswer x ≡ nextAnswer y → x ≡ y
 next-same (next.Id m) (next.Id n) h = ap next.Id (ap (value 0) h)
@@ -101,10 +100,10 @@ abbrev pub without-ring : Outcome → Outcome
 without-ring o = outcome (o .answer) (o .end) none (o .ids) (o .counts)
 
 abbrev pub submitted-seen : Submitted × (List ℕ × (List ℕ × List ℕ)) → Outcome
-submitted-seen = all-seen answerOf recordOf submitted-same
+submitted-seen = all-seen submittedAnswer submittedRecord submitted-same
 
 pub submitted-all : (x y : Submitted × (List ℕ × (List ℕ × List ℕ))) → submitted-seen x ≡ submitted-seen y → x ≡ y
-submitted-all = all-same answerOf recordOf submitted-same
+submitted-all = all-same submittedAnswer submittedRecord submitted-same
 
 abbrev pub told-seen : SubmittedTold × (List ℕ × (List ℕ × List ℕ)) → Outcome
 told-seen = all-seen toldAnswer toldRecord told-same
@@ -113,23 +112,23 @@ pub told-all : (x y : SubmittedTold × (List ℕ × (List ℕ × List ℕ))) →
 told-all = all-same toldAnswer toldRecord told-same
 
 abbrev pub polled-seen : PolledUsed × (List ℕ × (List ℕ × List ℕ)) → Outcome
-polled-seen = all-seen usedAnswer usedRecord polled-same
+polled-seen = all-seen polledAnswer polledRecord polled-same
 
 pub polled-all : (x y : PolledUsed × (List ℕ × (List ℕ × List ℕ))) → polled-seen x ≡ polled-seen y → x ≡ y
-polled-all = all-same usedAnswer usedRecord polled-same
+polled-all = all-same polledAnswer polledRecord polled-same
 
-abbrev pub reset-seen : Turned × (List ℕ × (List ℕ × List ℕ)) → Outcome
-reset-seen = all-seen turnAnswer turnRecord turned-same
+abbrev pub answered-seen : Answered × (List ℕ × (List ℕ × List ℕ)) → Outcome
+answered-seen = all-seen answerOf recordOf answered-same
 
-pub reset-all : (x y : Turned × (List ℕ × (List ℕ × List ℕ))) → reset-seen x ≡ reset-seen y → x ≡ y
-reset-all = all-same turnAnswer turnRecord turned-same
+pub answered-all : (x y : Answered × (List ℕ × (List ℕ × List ℕ))) → answered-seen x ≡ answered-seen y → x ≡ y
+answered-all = all-same answerOf recordOf answered-same
 
-abbrev pub turned-seen : Turned × List ℕ → Changed
-turned-seen x = changed (turnAnswer (x .0)) (turnRecord (x .0)) (x .1)
+abbrev pub changed-seen : Answered × List ℕ → Changed
+changed-seen x = changed (answerOf (x .0)) (recordOf (x .0)) (x .1)
 
-pub turned-all : (x y : Turned × List ℕ) → turned-seen x ≡ turned-seen y → x ≡ y
-turned-all x y h i =
-    (turned-same (x .0) (y .0) (ap (λ (o : Changed). o .answer) h) (ap (λ (o : Changed). o .end) h) i, h i .ring)
+pub changed-all : (x y : Answered × List ℕ) → changed-seen x ≡ changed-seen y → x ≡ y
+changed-all x y h i =
+    (answered-same (x .0) (y .0) (ap (λ (o : Changed). o .answer) h) (ap (λ (o : Changed). o .end) h) i, h i .ring)
 
 abbrev pub opened-seen : Opened × (List ℕ × List ℕ) → Open
 opened-seen x = opened (openedAnswer (x .0)) (x .1 .0) (x .1 .1)

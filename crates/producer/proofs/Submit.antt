@@ -1,31 +1,67 @@
--- The two ways a submission ends.
+-- The ways a submission ends.
 -- Assumes nothing.
-use Prim.Native.Nat.{ℕ, _<_}
+use Prim.Native.Nat.{ℕ, _≤_, _<_}
 use mathlib.Core.Path.{_≡_}
 use mathlib.Core.List.{List}
 use mathlib.Core.Bool.{not, _||_}
 use native.Mathlib.Omega.{arith}
 use lib.Dec.{ltb, leb, eqb}
 use lib.ListN.{length, getD}
-use borrow.Author.Tests.{eq-eqb, ne-eqb}
+use borrow.Author.Tests.{eq-eqb, ne-eqb, eqb-true, eqb-false, ltb-false, leb-false, not-false}
 use Rattle.base.specs.Answer.{refused}
-use Rattle.base.proofs.Ladder.{cond-lt}
+use Rattle.base.proofs.Tests.{neither, positive}
+use Rattle.base.proofs.Ladder.{passed, cond-lt}
 use Rattle.chain.specs.Chain.{badChain}
+use Rattle.chain.proofs.Laws.{Good, good}
 use Rattle.producer.specs.declared.RingProducer.{RingProducer}
 use Rattle.producer.specs.Outcome.{outcome}
 use Rattle.producer.specs.Record.{badRecord, badLent}
 use Rattle.producer.specs.Submit.{topOf, submitRefusal, elementOf, putChain, submittedOf, submitOf}
+use Rattle.producer.proofs.Ready.{Sound, sound, Lent, lent}
 
--- no refusal of a submission is past 8
-pub refusal-below : (p : RingProducer) (bytes : ℕ) (ids counts : List ℕ) (n lens readable : ℕ) → submitRefusal p bytes ids counts n lens readable < 9
-unfolding submitRefusal
-refusal-below p bytes ids counts n lens readable =
-    cond-lt (badRecord p) 7 _ (omega arith)
-    (cond-lt (badLent p bytes (length ids) (length counts) || badChain n lens readable) 8 _ (omega arith)
-    (cond-lt (eqb n 0) 1 _ (omega arith)
-    (cond-lt (ltb (p .free) n) 3 _ (omega arith)
-    (cond-lt (eqb (p .height) 0) 4 _ (omega arith)
-    (cond-lt (leb (p .layout .size) (topOf p ids) || not (eqb (getD counts (topOf p ids) 0) 0)) 5 0 (omega arith) (omega arith))))))
+-- what a submission that is not refused may count on
+module _ (p : RingProducer) (bytes : ℕ) (ids counts : List ℕ) (n lens readable : ℕ) where
+  pub record SubmitReady : Type 0 where
+    pub sound : Sound p
+    pub lent : Lent p bytes (length ids) (length counts)
+    pub chain : Good n lens readable
+    pub elements : 0 < n
+    pub room : n ≤ p .free
+    pub stack : 0 < p .height
+    pub id : topOf p ids < p .layout .size
+    pub unheld : getD counts (topOf p ids) 0 ≡ 0
+
+  pub submit-ready : submitRefusal p bytes ids counts n lens readable ≡ 0 → SubmitReady
+  unfolding submitRefusal
+  submit-ready e =
+      let e₁ = passed (badRecord p) 7 _ (omega arith) e in
+      let e₂ = passed (badLent p bytes (length ids) (length counts) || badChain n lens readable) 8 _ (omega arith) (e₁ .1) in
+      let e₃ = passed (eqb n 0) 1 _ (omega arith) (e₂ .1) in
+      let e₄ = passed (ltb (p .free) n) 3 _ (omega arith) (e₃ .1) in
+      let e₅ = passed (eqb (p .height) 0) 4 _ (omega arith) (e₄ .1) in
+      let e₆ = passed _ 5 0 (omega arith) (e₅ .1) in
+      let l = neither (badLent p bytes (length ids) (length counts)) _ (e₂ .0) in
+      let i = neither (leb (p .layout .size) (topOf p ids)) _ (e₆ .0) in
+      record {
+        sound = sound p (e₁ .0);
+        lent = lent p bytes (length ids) (length counts) (l .0);
+        chain = good n lens readable (l .1);
+        elements = positive (eqb-false n 0 (e₃ .0));
+        room = ltb-false (p .free) n (e₄ .0);
+        stack = positive (eqb-false (p .height) 0 (e₅ .0));
+        id = leb-false (p .layout .size) (topOf p ids) (i .0);
+        unheld = eqb-true (getD counts (topOf p ids) 0) 0 (not-false (eqb (getD counts (topOf p ids) 0) 0) (i .1));
+      }
+
+  pub submit-below : submitRefusal p bytes ids counts n lens readable < 9
+  unfolding submitRefusal
+  submit-below =
+      cond-lt (badRecord p) 7 _ (omega arith)
+      (cond-lt (badLent p bytes (length ids) (length counts) || badChain n lens readable) 8 _ (omega arith)
+      (cond-lt (eqb n 0) 1 _ (omega arith)
+      (cond-lt (ltb (p .free) n) 3 _ (omega arith)
+      (cond-lt (eqb (p .height) 0) 4 _ (omega arith)
+      (cond-lt (leb (p .layout .size) (topOf p ids) || not (eqb (getD counts (topOf p ids) 0) 0)) 5 0 (omega arith) (omega arith))))))
 
 module _ (p : RingProducer) (ring ids counts addrs lens : List ℕ) (readable : ℕ) where
   abbrev no : ℕ

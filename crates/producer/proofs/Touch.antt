@@ -1,35 +1,34 @@
 -- Frames: which bytes and which entries each call can touch, and what it leaves of the rest.
 -- Assumes nothing.
 use Prim.Native.Nat.{ℕ, _*_, _≤_, _<_}
-use mathlib.Core.Path.{_≡_, refl, _∙_, ap}
+use mathlib.Core.Path.{_≡_, _∙_, ap}
 use mathlib.Core.List.{List}
 use mathlib.Core.Bool.{Bool}
 use native.Mathlib.Omega.{arith}
+use lib.Dec.{eqb}
 use lib.ListN.{length, getD, set, replicate, length-replicate}
 use lib.Seq.{getD-set-same, getD-set-other}
 use Rattle.base.specs.Bytes.{putOf, getOf}
-use Rattle.base.proofs.Tests.{by-eq}
+use Rattle.base.proofs.Tests.{chosen}
 use Rattle.cursor.specs.declared.RingCursor.{RingCursor}
 use Rattle.cursor.specs.Cursor.{steps}
 use Rattle.desc.specs.declared.Descriptor.{Descriptor}
-use Rattle.event.specs.Event.{ENABLE, event, encodeOf}
+use Rattle.event.specs.Event.{ENABLE, DESC, event, encodeOf}
 use Rattle.event.proofs.Trips.{encode-length}
 use Rattle.layout.specs.Layout.{tableBytes}
 use Rattle.ring.specs.Slots.{slotOf}
-use Rattle.ring.specs.Events.{turned, armed}
 use Rattle.ring.specs.Tables.{upTo}
 use Rattle.ring.proofs.Laws.{up-length}
-use Rattle.ring.proofs.Frames.{Clear, put-length, put-clear, turned-length, turned-clear, armed-length, armed-clear, sets-behind}
+use Rattle.ring.proofs.Frames.{Clear, put-length, put-clear, EventAlone, event-kept, turned-alone, armed-alone, sets-behind}
 use Rattle.producer.specs.declared.RingProducer.{RingProducer}
-use Rattle.producer.specs.Outcome.{Outcome}
+use Rattle.producer.specs.Record.{bytesRefusal, lentRefusal}
+use Rattle.producer.specs.Outcome.{Outcome, Changed}
 use Rattle.producer.specs.Submit.{topOf, submitRefusal, elementOf, putChain, submittedOf, submitOf}
 use Rattle.producer.specs.Poll.{pollRefusal, polledOf, pollOf}
-use Rattle.producer.specs.Notices.{bytesRefusal, turnOf, armOf}
-use Rattle.producer.specs.Fresh.{allRefusal, resetOf}
-use Rattle.producer.proofs.Ready.{Ready, ready}
-use Rattle.producer.proofs.Submit.{submit-done}
+use Rattle.producer.specs.Notices.{noticeOf, turnOf, armOf}
+use Rattle.producer.specs.Fresh.{resetOf}
+use Rattle.producer.proofs.Submit.{SubmitReady, submit-ready, submit-done}
 use Rattle.producer.proofs.Poll.{poll-done}
-use Rattle.producer.proofs.Notices.{turn-refused, turn-kept, turn-done, arm-refused, arm-done}
 use Rattle.producer.proofs.Reset.{reset-done}
 use Rattle.producer.proofs.Frame.{chain-length, chain-clear, chain-keep}
 
@@ -43,8 +42,8 @@ module _ (p : RingProducer) (ring ids counts addrs lens : List ℕ) (readable : 
   abbrev element : ℕ → Descriptor
   element = elementOf (topOf p ids) addrs lens readable
 
-  is-ready : Ready p (length ring) ids counts (length addrs) (length lens) readable
-  is-ready = ready p (length ring) ids counts (length addrs) (length lens) readable h
+  is-ready : SubmitReady p (length ring) ids counts (length addrs) (length lens) readable
+  is-ready = submit-ready p (length ring) ids counts (length addrs) (length lens) readable h
 
   pub submit-ring : submitted .ring ≡ putChain (p .layout) element (length addrs) (p .avail) ring .bytes
   unfolding submittedOf
@@ -111,42 +110,23 @@ module _ (p : RingProducer) (ring ids counts : List ℕ)
 -- ---- a notification's call, refused or not: the driver's event area
 
 module _ (p : RingProducer) (ring : List ℕ) where
-  abbrev no : ℕ
-  no = bytesRefusal p (length ring)
+  notice-alone :
+      (flags : ℕ) (bytes : List ℕ) → EventAlone (p .layout .driver) ring bytes
+      → EventAlone (p .layout .driver) ring (noticeOf p ring flags bytes .ring)
+  unfolding noticeOf
+  notice-alone flags bytes h =
+      chosen (λ (o : Changed). EventAlone (p .layout .driver) ring (o .ring)) (eqb (bytesRefusal p (length ring)) 0) _ _
+      h (event-kept (p .layout .driver) ring)
 
-  -- what holds of the bytes as they were and of the bytes turned holds of what the call leaves
-  turn-either : (P : List ℕ → Type 0) (flags : ℕ) → P ring → P (turned (p .layout .driver) flags ring) → P (turnOf p ring flags .ring)
-  turn-either P flags a b =
-      by-eq no 0
-      (λ z. by-eq (p .shadow) flags
-      (λ s. rw (turn-kept p ring flags z s) a)
-      (λ s. rw (turn-done p ring flags z s) b))
-      (λ z. rw (turn-refused p ring flags z) a)
+  pub turn-alone : (flags : ℕ) → EventAlone (p .layout .driver) ring (turnOf p ring flags .ring)
+  turn-alone flags = notice-alone flags _ (turned-alone (p .layout .driver) ring (p .shadow) flags)
 
-  pub turn-length : (flags : ℕ) → length (turnOf p ring flags .ring) ≡ length ring
-  turn-length flags =
-      turn-either (λ (l : List ℕ). length l ≡ length ring) flags refl (turned-length (p .layout .driver) ring flags)
-
-  pub turn-clear : (flags j m : ℕ) → Clear (p .layout .driver) 4 j m → getOf (turnOf p ring flags .ring) j m ≡ getOf ring j m
-  turn-clear flags j m o =
-      turn-either (λ (l : List ℕ). getOf l j m ≡ getOf ring j m) flags refl (turned-clear (p .layout .driver) ring flags j m o)
-
-  arm-either :
-      (P : List ℕ → Type 0) (off : ℕ) (wrap : Bool) → P ring → P (armed (p .layout .driver) off wrap ring) → P (armOf p ring off wrap .ring)
-  arm-either P off wrap a b =
-      by-eq no 0 (λ z. rw (arm-done p ring off wrap z) b) (λ z. rw (arm-refused p ring off wrap z) a)
-
-  pub arm-length : (off : ℕ) (wrap : Bool) → length (armOf p ring off wrap .ring) ≡ length ring
-  arm-length off wrap =
-      arm-either (λ (l : List ℕ). length l ≡ length ring) off wrap refl (armed-length (p .layout .driver) ring off wrap)
-
-  pub arm-clear : (off : ℕ) (wrap : Bool) (j m : ℕ) → Clear (p .layout .driver) 4 j m → getOf (armOf p ring off wrap .ring) j m ≡ getOf ring j m
-  arm-clear off wrap j m o =
-      arm-either (λ (l : List ℕ). getOf l j m ≡ getOf ring j m) off wrap refl (armed-clear (p .layout .driver) ring off wrap j m o)
+  pub arm-alone : (off : ℕ) (wrap : Bool) → EventAlone (p .layout .driver) ring (armOf p ring off wrap .ring)
+  arm-alone off wrap = notice-alone DESC _ (armed-alone (p .layout .driver) ring off wrap)
 
 -- ---- an accepted reset: the table, the driver's event area, and the first ring-size entries
 
-module _ (p : RingProducer) (ring ids counts : List ℕ) (h : allRefusal p (length ring) (length ids) (length counts) ≡ 0) where
+module _ (p : RingProducer) (ring ids counts : List ℕ) (h : lentRefusal p (length ring) (length ids) (length counts) ≡ 0) where
   abbrev zeroed : List ℕ
   zeroed = putOf ring (p .layout .table) (replicate (16 * p .layout .size) 0) .bytes
 

@@ -17,7 +17,7 @@ use Rattle.ring.specs.Tables.{upTo}
 use Rattle.producer.specs.declared.RingProducer.{RingProducer}
 use Rattle.producer.specs.declared.Opened.{Opened}
 use Rattle.producer.specs.declared.Opened.the-variants.{Ring, Refused}
-use Rattle.producer.specs.Record.{badRecord, badLent}
+use Rattle.producer.specs.Record.{lentRefusal}
 use Rattle.producer.specs.Outcome.{Outcome, outcome}
 
 -- everything fresh: both cursors, all slots and all IDs free, notifications on
@@ -61,10 +61,6 @@ abbrev pub openedAnswer : Opened → Answer
 openedAnswer (Ring p) = done (recordValues p)
 openedAnswer (Refused e) = refused (numberOf e)
 
--- "7, 8": the record, then all that is lent
-unfoldable pub allRefusal : RingProducer → ℕ → ℕ → ℕ → ℕ
-allRefusal p bytes ids counts = cond (badRecord p) 7 (cond (badLent p bytes ids counts) 8 0)
-
 -- "reset zeroes the table and the driver event, then everything is fresh"
 abbrev pub zeroedOf : Layout → List ℕ → List ℕ
 zeroedOf l ring =
@@ -72,7 +68,7 @@ zeroedOf l ring =
 
 unfoldable pub resetOf : RingProducer → List ℕ → List ℕ → List ℕ → Outcome
 resetOf p ring ids counts =
-    let no = allRefusal p (length ring) (length ids) (length counts) in
+    let no = lentRefusal p (length ring) (length ids) (length counts) in
     cond (eqb no 0)
     (outcome (done []) (freshOf (p .layout)) (zeroedOf (p .layout) ring)
     (sets ids 0 (upTo (p .layout .size))) (sets counts 0 (replicate (p .layout .size) 0)))

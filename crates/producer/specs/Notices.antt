@@ -4,21 +4,14 @@ use mathlib.Core.List.{List, [], _∷_}
 use mathlib.Core.Bool.{Bool, cond, _||_}
 use lib.Dec.{leb, eqb}
 use lib.ListN.{length}
-use Rattle.base.specs.Refusals.{numberOf}
 use Rattle.base.specs.Answer.{Answer, done, refused, bit}
 use Rattle.cursor.specs.declared.RingCursor.{RingCursor}
 use Rattle.event.specs.Event.{DESC}
 use Rattle.layout.specs.Layout.{outside}
 use Rattle.ring.specs.Events.{turned, armed, told}
 use Rattle.producer.specs.declared.RingProducer.{RingProducer}
-use Rattle.producer.specs.declared.Turned.{Turned}
-use Rattle.producer.specs.declared.Turned.the-variants.{Done, Refused}
-use Rattle.producer.specs.Record.{badRecord}
+use Rattle.producer.specs.Record.{badRecord, bytesRefusal}
 use Rattle.producer.specs.Outcome.{Changed, changed}
-
--- "7, 8 for all else": the record, then the bytes
-unfoldable pub bytesRefusal : RingProducer → ℕ → ℕ
-bytesRefusal p bytes = cond (badRecord p) 7 (cond (outside (p .layout) bytes) 8 0)
 
 -- 7 also for "a head not below the size, also in an old cursor .. that is handed in"
 unfoldable pub sinceRefusal : RingProducer → ℕ → RingCursor → ℕ
@@ -37,23 +30,19 @@ shadowOf p flags =
       shadow = flags;
     }
 
--- "Turning notifications on or off writes nothing if the end's shadow already says so, and otherwise keeps the offset word."
-unfoldable pub turnOf : RingProducer → List ℕ → ℕ → Changed
-turnOf p ring flags =
+-- a notification's call: refused, or these flags in the shadow and these bytes
+unfoldable pub noticeOf : RingProducer → List ℕ → ℕ → List ℕ → Changed
+noticeOf p ring flags bytes =
     let no = bytesRefusal p (length ring) in
-    cond (eqb no 0)
-    (cond (eqb (p .shadow) flags)
-    (changed (done []) p ring)
-    (changed (done []) (shadowOf p flags) (turned (p .layout .driver) flags ring)))
-    (changed (refused no) p ring)
+    cond (eqb no 0) (changed (done []) (shadowOf p flags) bytes) (changed (refused no) p ring)
 
--- "Arming at a slot always writes"
-unfoldable pub armOf : RingProducer → List ℕ → ℕ → Bool → Changed
-armOf p ring off wrap =
-    let no = bytesRefusal p (length ring) in
-    cond (eqb no 0)
-    (changed (done []) (shadowOf p DESC) (armed (p .layout .driver) off wrap ring))
-    (changed (refused no) p ring)
+-- "Turning notifications on or off": where the shadow already says so, the record and the bytes stay as they are
+abbrev pub turnOf : RingProducer → List ℕ → ℕ → Changed
+turnOf p ring flags = noticeOf p ring flags (turned (p .layout .driver) (p .shadow) flags ring)
+
+-- "Arming at a slot"
+abbrev pub armOf : RingProducer → List ℕ → ℕ → Bool → Changed
+armOf p ring off wrap = noticeOf p ring DESC (armed (p .layout .driver) off wrap ring)
 
 -- what the device's event area asks of the move from old to the avail cursor
 unfoldable pub sinceOf : RingProducer → List ℕ → RingCursor → Answer
@@ -62,11 +51,3 @@ sinceOf p ring old =
     cond (eqb no 0)
     (done (bit (told (p .layout .device) (p .layout .size) old (p .avail) ring) ∷ []))
     (refused no)
-
-abbrev pub turnAnswer : Turned → Answer
-turnAnswer (Done p) = done []
-turnAnswer (Refused e p) = refused (numberOf e)
-
-abbrev pub turnRecord : Turned → RingProducer
-turnRecord (Done p) = p
-turnRecord (Refused e p) = p

@@ -1,8 +1,11 @@
 -- What a call of the producer leaves: its answer, the record, the ring's bytes and both tables.
 use Prim.Native.Nat.{ℕ}
-use mathlib.Core.List.{List}
-use Rattle.base.specs.Answer.{Answer}
+use mathlib.Core.List.{List, []}
+use Rattle.base.specs.Refusals.{numberOf}
+use Rattle.base.specs.Answer.{Answer, done, refused}
 use Rattle.producer.specs.declared.RingProducer.{RingProducer}
+use Rattle.producer.specs.declared.Answered.{Answered}
+use Rattle.producer.specs.declared.Answered.the-variants.{Done, Refused}
 
 pub record Outcome : Type 0 where
   pub answer : Answer
@@ -22,3 +25,12 @@ pub record Changed : Type 0 where
 
 abbrev pub changed : Answer → RingProducer → List ℕ → Changed
 changed a p l = record { answer = a; end = p; ring = l }
+
+-- the cases of an answer that has nothing to hand back, in the paper's number and values, and the record that each hands back
+abbrev pub answerOf : Answered → Answer
+answerOf (Done p) = done []
+answerOf (Refused e p) = refused (numberOf e)
+
+abbrev pub recordOf : Answered → RingProducer
+recordOf (Done p) = p
+recordOf (Refused e p) = p

@@ -54,13 +54,13 @@ pollOf p ring ids counts =
     let no = pollRefusal p (length ring) d (length ids) counts in
     cond (eqb no 0) (polledOf p d ring ids counts) (outcome (refused no) p ring ids counts)
 
-abbrev pub usedAnswer : PolledUsed → Answer
-usedAnswer (Used u p) = done (u .id ∷ u .len ∷ [])
-usedAnswer (Refused e p) = refused (numberOf e)
+abbrev pub polledAnswer : PolledUsed → Answer
+polledAnswer (Used u p) = done (u .id ∷ u .len ∷ [])
+polledAnswer (Refused e p) = refused (numberOf e)
 
-abbrev pub usedRecord : PolledUsed → RingProducer
-usedRecord (Used u p) = p
-usedRecord (Refused e p) = p
+abbrev pub polledRecord : PolledUsed → RingProducer
+polledRecord (Used u p) = p
+polledRecord (Refused e p) = p
 
 -- "7, 8, then 4, 5 for next_id"
 unfoldable pub nextRefusal : RingProducer → List ℕ → List ℕ → ℕ

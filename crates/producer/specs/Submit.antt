@@ -89,10 +89,10 @@ submitOf p ring ids counts addrs lens readable =
     (outcome (refused no) p ring ids counts)
 
 -- the answer's cases, in the paper's number and values, and the record that each hands back
-abbrev pub answerOf : Submitted → Answer
-answerOf (Id id p) = done (id ∷ [])
-answerOf (Refused e p) = refused (numberOf e)
+abbrev pub submittedAnswer : Submitted → Answer
+submittedAnswer (Id id p) = done (id ∷ [])
+submittedAnswer (Refused e p) = refused (numberOf e)
 
-abbrev pub recordOf : Submitted → RingProducer
-recordOf (Id id p) = p
-recordOf (Refused e p) = p
+abbrev pub submittedRecord : Submitted → RingProducer
+submittedRecord (Id id p) = p
+submittedRecord (Refused e p) = p

@@ -17,12 +17,12 @@ ghost use Rattle.cursor.specs.Cursor.{valuesOf, badMove};
 ghost use Rattle.event.specs.Event.{ENABLE, DISABLE};
 ghost use Rattle.notify.specs.Notify as notified;
 ghost use Rattle.ring.specs.Asked.{askOf, countAnswer, boolAnswer, cursorAnswer, tableAnswer};
-ghost use Rattle.producer.specs.Outcome.{outcome, changed};
+ghost use Rattle.producer.specs.Outcome.{outcome, changed, answerOf, recordOf};
 ghost use Rattle.producer.specs.Record.{badRecord};
-ghost use Rattle.producer.specs.Submit.{answerOf, recordOf, takenOf, submitOf};
+ghost use Rattle.producer.specs.Submit.{submittedAnswer, submittedRecord, takenOf, submitOf};
 ghost use Rattle.producer.specs.Tell.{toldAnswer, toldRecord, tellOf};
-ghost use Rattle.producer.specs.Poll.{usedAnswer, usedRecord, freedOf, pollOf, nextAnswer, nextOf};
-ghost use Rattle.producer.specs.Notices.{turnAnswer, turnRecord, shadowOf, turnOf, armOf, sinceOf};
+ghost use Rattle.producer.specs.Poll.{polledAnswer, polledRecord, freedOf, pollOf, nextAnswer, nextOf};
+ghost use Rattle.producer.specs.Notices.{shadowOf, turnOf, armOf, sinceOf};
 ghost use Rattle.producer.specs.Fresh.{freshOf, openedAnswer, opened, openOf, resetOf};
 use base::RingError;
 use base::pick;
@@ -80,8 +80,8 @@ pub enum NextId {
     Refused(RingError),
 }
 
-// What a call answers that changes the record, the bytes and, at reset, the tables.
-pub enum Turned {
+// What a call answers that has nothing to hand back but the record.
+pub enum Answered {
     Done(RingProducer),
     Refused(RingError, RingProducer),
 }
@@ -141,7 +141,7 @@ impl RingProducer {
         len: u32,
         writable: bool,
     ) -> Submitted
-        ensures { λ r. ⌜ outcome (answerOf r) (recordOf r) (now (ring .exit)) (now (ids .entry)) (now (counts .exit))
+        ensures { λ r. ⌜ outcome (submittedAnswer r) (submittedRecord r) (now (ring .exit)) (now (ids .entry)) (now (counts .exit))
             ≡ submitOf self (now (ring .entry)) (now (ids .entry)) (now (counts .entry)) (addr ∷ []) (len ∷ []) (cond writable 0 1) ⌝ }
     {
         let addrs = [addr];
@@ -160,7 +160,7 @@ impl RingProducer {
         lens: &[u32],
         readable: usize,
     ) -> Submitted
-        ensures { λ r. ⌜ outcome (answerOf r) (recordOf r) (now (ring .exit)) (now (ids .entry)) (now (counts .exit))
+        ensures { λ r. ⌜ outcome (submittedAnswer r) (submittedRecord r) (now (ring .exit)) (now (ids .entry)) (now (counts .exit))
             ≡ submitOf self (now (ring .entry)) (now (ids .entry)) (now (counts .entry)) (now (addrs .entry)) (now (lens .entry)) readable ⌝ }
     {
         let n = addrs.len();
@@ -211,7 +211,7 @@ impl RingProducer {
 
     // The completion at the used cursor, if there is one: its ID and its slots are free again.
     pub fn poll_used(self, ring: &[u8], ids: &mut [u16], counts: &mut [u16]) -> PolledUsed
-        ensures { λ r. ⌜ outcome (usedAnswer r) (usedRecord r) (now (ring .entry)) (now (ids .exit)) (now (counts .exit))
+        ensures { λ r. ⌜ outcome (polledAnswer r) (polledRecord r) (now (ring .entry)) (now (ids .exit)) (now (counts .exit))
             ≡ pollOf self (now (ring .entry)) (now (ids .entry)) (now (counts .entry)) ⌝ }
     {
         let d = ring::look(ring, self.layout.table, self.used);
@@ -317,32 +317,32 @@ impl RingProducer {
         Notified::Notify(ring::should_notify_evt(ring, device, size, old, self.avail))
     }
 
-    pub fn disable_used_notifications(self, ring: &mut [u8]) -> Turned
-        ensures { λ r. ⌜ changed (turnAnswer r) (turnRecord r) (now (ring .exit)) ≡ turnOf self (now (ring .entry)) DISABLE ⌝ }
+    pub fn disable_used_notifications(self, ring: &mut [u8]) -> Answered
+        ensures { λ r. ⌜ changed (answerOf r) (recordOf r) (now (ring .exit)) ≡ turnOf self (now (ring .entry)) DISABLE ⌝ }
     {
         self.turned(ring, event::DISABLE)
     }
 
-    pub fn enable_used_notifications(self, ring: &mut [u8]) -> Turned
-        ensures { λ r. ⌜ changed (turnAnswer r) (turnRecord r) (now (ring .exit)) ≡ turnOf self (now (ring .entry)) ENABLE ⌝ }
+    pub fn enable_used_notifications(self, ring: &mut [u8]) -> Answered
+        ensures { λ r. ⌜ changed (answerOf r) (recordOf r) (now (ring .exit)) ≡ turnOf self (now (ring .entry)) ENABLE ⌝ }
     {
         self.turned(ring, event::ENABLE)
     }
 
-    pub fn enable_used_notifications_desc(self, ring: &mut [u8], off: u16, wrap: bool) -> Turned
-        ensures { λ r. ⌜ changed (turnAnswer r) (turnRecord r) (now (ring .exit)) ≡ armOf self (now (ring .entry)) off wrap ⌝ }
+    pub fn enable_used_notifications_desc(self, ring: &mut [u8], off: u16, wrap: bool) -> Answered
+        ensures { λ r. ⌜ changed (answerOf r) (recordOf r) (now (ring .exit)) ≡ armOf self (now (ring .entry)) off wrap ⌝ }
     {
         let no = refuse::bytes(self, ring.len());
         if no != 0 {
-            return Turned::Refused(RingError::numbered(no), self);
+            return Answered::Refused(RingError::numbered(no), self);
         }
         ring::arm(ring, self.layout.driver, off, wrap);
-        Turned::Done(self.shadowed(event::DESC))
+        Answered::Done(self.shadowed(event::DESC))
     }
 
     // At the slot that is looked at next.
-    pub fn enable_used_notifications_for_next(self, ring: &mut [u8]) -> Turned
-        ensures { λ r. ⌜ changed (turnAnswer r) (turnRecord r) (now (ring .exit)) ≡ armOf self (now (ring .entry)) (self .used .head) (self .used .wrap) ⌝ }
+    pub fn enable_used_notifications_for_next(self, ring: &mut [u8]) -> Answered
+        ensures { λ r. ⌜ changed (answerOf r) (recordOf r) (now (ring .exit)) ≡ armOf self (now (ring .entry)) (self .used .head) (self .used .wrap) ⌝ }
     {
         let off = self.used.head;
         let wrap = self.used.wrap;
@@ -350,13 +350,13 @@ impl RingProducer {
     }
 
     // The table and the driver's event zero, and everything fresh.
-    pub fn reset(self, ring: &mut [u8], ids: &mut [u16], counts: &mut [u16]) -> Turned
-        ensures { λ r. ⌜ outcome (turnAnswer r) (turnRecord r) (now (ring .exit)) (now (ids .exit)) (now (counts .exit))
+    pub fn reset(self, ring: &mut [u8], ids: &mut [u16], counts: &mut [u16]) -> Answered
+        ensures { λ r. ⌜ outcome (answerOf r) (recordOf r) (now (ring .exit)) (now (ids .exit)) (now (counts .exit))
             ≡ resetOf self (now (ring .entry)) (now (ids .entry)) (now (counts .entry)) ⌝ }
     {
         let no = refuse::all(self, ring.len(), ids.len(), counts.len());
         if no != 0 {
-            return Turned::Refused(RingError::numbered(no), self);
+            return Answered::Refused(RingError::numbered(no), self);
         }
         let layout = self.layout;
         let size = layout.size;
@@ -364,22 +364,18 @@ impl RingProducer {
         EventSuppression::clear(ring, layout.driver);
         ring::tables::count_up(ids, size);
         ring::tables::zero(counts, size);
-        Turned::Done(fresh(layout))
+        Answered::Done(fresh(layout))
     }
 
-    // Nothing is written where the shadow already says so.
-    fn turned(self, ring: &mut [u8], flags: u16) -> Turned
-        ensures { λ r. ⌜ changed (turnAnswer r) (turnRecord r) (now (ring .exit)) ≡ turnOf self (now (ring .entry)) flags ⌝ }
+    fn turned(self, ring: &mut [u8], flags: u16) -> Answered
+        ensures { λ r. ⌜ changed (answerOf r) (recordOf r) (now (ring .exit)) ≡ turnOf self (now (ring .entry)) flags ⌝ }
     {
         let no = refuse::bytes(self, ring.len());
         if no != 0 {
-            return Turned::Refused(RingError::numbered(no), self);
+            return Answered::Refused(RingError::numbered(no), self);
         }
-        if self.shadow == flags {
-            return Turned::Done(self);
-        }
-        ring::turn(ring, self.layout.driver, flags);
-        Turned::Done(self.shadowed(flags))
+        ring::turn(ring, self.layout.driver, self.shadow, flags);
+        Answered::Done(self.shadowed(flags))
     }
 
     // The record with other flags in its shadow.
@@ -437,7 +433,7 @@ impl RingProducer {
 
 // A submission's answer, with whether the device is to be told.
 fn told(answer: Submitted, ring: &[u8], old: RingCursor) -> SubmittedTold
-    ensures { λ r. ⌜ outcome (toldAnswer r) (toldRecord r) (now (ring .entry)) [] [] ≡ tellOf old (outcome (answerOf answer) (recordOf answer) (now (ring .entry)) [] []) ⌝ }
+    ensures { λ r. ⌜ outcome (toldAnswer r) (toldRecord r) (now (ring .entry)) [] [] ≡ tellOf old (outcome (submittedAnswer answer) (submittedRecord answer) (now (ring .entry)) [] []) ⌝ }
 {
     match answer {
         Submitted::Id(id, p) => {

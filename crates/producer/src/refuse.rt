@@ -3,12 +3,10 @@
 // Copyright 2026 The Hyperlight Authors.
 // Translated from src/virtq/ring.rs of hyperlight-common 0.18.0 (the tests of RingProducer's calls) and changed: over lent slices.
 ghost use mathlib.Core.Path.{_≡_};
-ghost use lib.ListN.{length};
-ghost use Rattle.producer.specs.Record.{badRecord, badLent};
+ghost use Rattle.producer.specs.Record.{badRecord, badLent, bytesRefusal, lentRefusal};
 ghost use Rattle.producer.specs.Submit.{submitRefusal};
 ghost use Rattle.producer.specs.Poll.{pollRefusal, nextRefusal};
-ghost use Rattle.producer.specs.Notices.{bytesRefusal, sinceRefusal};
-ghost use Rattle.producer.specs.Fresh.{allRefusal};
+ghost use Rattle.producer.specs.Notices.{sinceRefusal};
 use crate::RingProducer;
 use base::pick;
 use cursor::RingCursor;
@@ -23,7 +21,7 @@ pub fn record(p: RingProducer) -> bool
 }
 
 // Bytes and tables of these lengths.
-pub fn lent(p: RingProducer, bytes: usize, ids: usize, counts: usize) -> bool
+fn lent(p: RingProducer, bytes: usize, ids: usize, counts: usize) -> bool
     ensures { λ r. ⌜ r ≡ badLent p bytes ids counts ⌝ }
 {
     let size = p.layout.size as usize;
@@ -99,7 +97,7 @@ pub fn since(p: RingProducer, lent: usize, old: RingCursor) -> u8
 
 // A call that is lent the bytes and both tables.
 pub fn all(p: RingProducer, bytes: usize, ids: usize, counts: usize) -> u8
-    ensures { λ r. ⌜ r ≡ allRefusal p bytes ids counts ⌝ }
+    ensures { λ r. ⌜ r ≡ lentRefusal p bytes ids counts ⌝ }
 {
     let eight = pick::pick8(lent(p, bytes, ids, counts), 8, 0);
     pick::pick8(record(p), 7, eight)

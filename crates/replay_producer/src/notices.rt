@@ -4,22 +4,22 @@ use format::input;
 use lines::answer;
 use lines::answer::Answer;
 use notify::Notified;
+use producer::Answered;
 use producer::RingProducer;
-use producer::Turned;
 
 pub fn answer(op: u8, p: RingProducer, record: &[u8], ring: &mut [u8]) -> Produced {
     match op {
         10 => since(p, p.should_notify_since(ring, input::cursor(record, 1))),
-        11 => turned(p.disable_used_notifications(ring)),
-        12 => turned(p.enable_used_notifications(ring)),
+        11 => answered(p.disable_used_notifications(ring)),
+        12 => answered(p.enable_used_notifications(ring)),
         13 => armed(p, record, ring),
-        _ => turned(p.enable_used_notifications_for_next(ring)),
+        _ => answered(p.enable_used_notifications_for_next(ring)),
     }
 }
 
 fn armed(p: RingProducer, record: &[u8], ring: &mut [u8]) -> Produced {
     let c = input::cursor(record, 1);
-    turned(p.enable_used_notifications_desc(ring, c.head, c.wrap))
+    answered(p.enable_used_notifications_desc(ring, c.head, c.wrap))
 }
 
 fn since(p: RingProducer, n: Notified) -> Produced {
@@ -30,9 +30,9 @@ fn since(p: RingProducer, n: Notified) -> Produced {
 }
 
 // What answers with the record alone.
-pub fn turned(t: Turned) -> Produced {
-    match t {
-        Turned::Done(p) => Produced::said(p, Answer::done()),
-        Turned::Refused(e, p) => Produced::refused(p, e),
+pub fn answered(a: Answered) -> Produced {
+    match a {
+        Answered::Done(p) => Produced::said(p, Answer::done()),
+        Answered::Refused(e, p) => Produced::refused(p, e),
     }
 }

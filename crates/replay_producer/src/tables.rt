@@ -20,7 +20,7 @@ pub fn answer(
     match op {
         5 => polled(p.poll_used(ring, ids, counts)),
         6 => next(p, p.next_id(ids, counts)),
-        15 => notices::turned(p.reset(ring, ids, counts)),
+        15 => notices::answered(p.reset(ring, ids, counts)),
         _ => opened(p, open(header::geometry(op, record), ring, ids, counts)),
     }
 }

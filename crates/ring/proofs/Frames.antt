@@ -8,20 +8,22 @@ use mathlib.Core.List.{List, [], _∷_}
 use mathlib.Core.Bool.{Bool}
 use native.Mathlib.Omega.{arith}
 use native.Mathlib.Nat.{add-zero, suc-add, add-suc}
+use lib.Dec.{eqb}
 use lib.ListN.{length, getD, set, replicate, length-set, length-replicate, getD-replicate}
 use lib.Seq.{sets, length-sets, getD-set-same, getD-set-other, ext-getD}
 use Rattle.base.specs.Answer.{Outcome}
 use Rattle.base.specs.Bytes.{putOf, getOf}
-use Rattle.base.proofs.Tests.{by-lt}
+use Rattle.base.proofs.Tests.{by-lt, chosen}
 use Rattle.base.proofs.Runs.{put-fits, put-short, get-fits, get-length, get-same, get-other, part-at}
 use Rattle.cursor.specs.declared.RingCursor.{RingCursor}
 use Rattle.desc.specs.declared.Descriptor.{Descriptor}
 use Rattle.desc.specs.Desc.{descriptor, encodeOf, decodeOf}
 use Rattle.desc.proofs.Trips.{Ranged, encode-length, decode-encode, decode-zeros}
+use Rattle.event.specs.declared.EventSuppression.{EventSuppression}
 use Rattle.event.specs.Event as events
 use Rattle.event.proofs.Trips as eventTrips
 use Rattle.ring.specs.Slots.{placeOf, slotOf, slotPut}
-use Rattle.ring.specs.Events.{eventAt, turned, armed}
+use Rattle.ring.specs.Events.{eventAt, eventPut, turned, armed}
 
 -- m bytes from j lie behind n bytes from i, or before them
 abbrev pub Clear : ℕ → ℕ → ℕ → ℕ → Type 0
@@ -104,26 +106,31 @@ slot-zero table c ring h z =
 -- ---- an event area
 
 module _ (at : ℕ) (ring : List ℕ) where
-  pub turned-length : (flags : ℕ) → length (turned at flags ring) ≡ length ring
-  unfolding turned
-  turned-length flags = put-length ring at (events.encodeOf (events.setFlags (eventAt at ring) flags))
+  -- bytes that differ from these in the event area alone
+  pub record EventAlone (bytes : List ℕ) : Type 0 where
+    pub same-length : length bytes ≡ length ring
+    pub clear : (j m : ℕ) → Clear at 4 j m → getOf bytes j m ≡ getOf ring j m
 
-  pub turned-clear : (flags j m : ℕ) → Clear at 4 j m → getOf (turned at flags ring) j m ≡ getOf ring j m
+  pub event-kept : EventAlone ring
+  event-kept = record { same-length = refl; clear = λ j m o. refl }
+
+  pub event-alone : (e : EventSuppression) → EventAlone (eventPut at e ring)
+  event-alone e =
+      record {
+        same-length = put-length ring at (events.encodeOf e);
+        clear =
+            λ j m o. put-clear ring at (events.encodeOf e) j m (subst (λ (n : ℕ). Clear at n j m) (sym (eventTrips.encode-length e)) o);
+      }
+
+  pub turned-alone : (shadow flags : ℕ) → EventAlone (turned at shadow flags ring)
   unfolding turned
-  turned-clear flags j m o =
+  turned-alone shadow flags =
       let e = events.setFlags (eventAt at ring) flags in
-      put-clear ring at (events.encodeOf e) j m (subst (λ (n : ℕ). Clear at n j m) (sym (eventTrips.encode-length e)) o)
+      chosen EventAlone (eqb shadow flags) ring (eventPut at e ring) event-kept (event-alone e)
 
-  pub armed-length : (off : ℕ) (wrap : Bool) → length (armed at off wrap ring) ≡ length ring
+  pub armed-alone : (off : ℕ) (wrap : Bool) → EventAlone (armed at off wrap ring)
   unfolding armed
-  armed-length off wrap =
-      put-length ring at (events.encodeOf (events.setFlags (events.setDescEvent (eventAt at ring) off wrap) events.DESC))
-
-  pub armed-clear : (off : ℕ) (wrap : Bool) (j m : ℕ) → Clear at 4 j m → getOf (armed at off wrap ring) j m ≡ getOf ring j m
-  unfolding armed
-  armed-clear off wrap j m o =
-      let e = events.setFlags (events.setDescEvent (eventAt at ring) off wrap) events.DESC in
-      put-clear ring at (events.encodeOf e) j m (subst (λ (n : ℕ). Clear at n j m) (sym (eventTrips.encode-length e)) o)
+  armed-alone off wrap = event-alone (events.setFlags (events.setDescEvent (eventAt at ring) off wrap) events.DESC)
 
 -- ---- entries of a table, or of an output
 

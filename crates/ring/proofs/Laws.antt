@@ -9,10 +9,12 @@ use native.Mathlib.Nat.{zero-add}
 use lib.Dec.{leb}
 use lib.ListN.{length, getD, take, set}
 use lib.Seq.{sets}
-use borrow.Author.Tests.{le-leb, lt-leb}
+use borrow.Author.Tests.{le-leb, lt-leb, eq-eqb, ne-eqb}
 use Rattle.base.specs.Bytes.{putOf, getOf}
 use Rattle.base.proofs.Tests.{by-lt}
 use Rattle.base.proofs.Runs.{put-short, get-short, sets-more}
+use Rattle.event.specs.Event.{setFlags}
+use Rattle.ring.specs.Events.{eventAt, eventPut, turned}
 use Rattle.ring.specs.Tables.{upFrom}
 
 -- a place as the code has it
@@ -32,6 +34,17 @@ clamped-put l at bs h z =
     (λ p. ap (λ (i : ℕ). putOf l i bs) (rw (lt-leb at 18446744073709551615 p))
     ∙ put-short l 18446744073709551615 bs (omega arith) ∙ sym (put-short l at bs (omega arith)))
     (λ p. ap (λ (i : ℕ). putOf l i bs) (rw (le-leb at 18446744073709551615 p)))
+
+-- ---- an event area turned: nothing is written where the shadow already says so
+
+module _ (at shadow flags : ℕ) (ring : List ℕ) where
+  pub turned-kept : shadow ≡ flags → turned at shadow flags ring ≡ ring
+  unfolding turned
+  turned-kept e = simp (eq-eqb shadow flags e)
+
+  pub turned-put : (shadow ≡ flags → ⊥) → turned at shadow flags ring ≡ eventPut at (setFlags (eventAt at ring) flags) ring
+  unfolding turned
+  turned-put e = simp (ne-eqb shadow flags e)
 
 -- ---- the lent tables
 

@@ -65,10 +65,13 @@ pub fn write(ring: &mut [u8], table: usize, c: RingCursor, d: Descriptor)
     desc::store(ring, at, d.encode());
 }
 
-// The event area's flags set, its offset word kept.
-pub fn turn(ring: &mut [u8], at: usize, flags: u16)
-    ensures { λ _. ⌜ now (ring .exit) ≡ turned at flags (now (ring .entry)) ⌝ }
+// The event area's flags set, its offset word kept; nothing is written where the end's shadow already says so.
+pub fn turn(ring: &mut [u8], at: usize, shadow: u16, flags: u16)
+    ensures { λ _. ⌜ now (ring .exit) ≡ turned at shadow flags (now (ring .entry)) ⌝ }
 {
+    if shadow == flags {
+        return;
+    }
     let e = EventSuppression::read(ring, at).set_flags(flags);
     e.write(ring, at);
 }

@@ -12,12 +12,12 @@ use Rattle.layout.specs.Layout.{layout, apart, badLayout, outside}
 use Rattle.chain.specs.Chain.{badChain}
 use Rattle.ring.specs.Tables.{upTo, upFrom}
 use Rattle.producer.specs.declared.RingProducer.{RingProducer}
-use Rattle.producer.specs.Record.{badRecord, badLent}
+use Rattle.producer.specs.Record.{badRecord, badLent, bytesRefusal, lentRefusal}
 use Rattle.producer.specs.Submit.{submitRefusal}
 use Rattle.producer.specs.Poll.{pollRefusal, nextRefusal}
-use Rattle.producer.specs.Notices.{bytesRefusal, sinceRefusal}
-use Rattle.producer.specs.Fresh.{freshOf, openOf, allRefusal}
-use Rattle.producer.proofs.Ready.{Ready, ready}
+use Rattle.producer.specs.Notices.{sinceRefusal}
+use Rattle.producer.specs.Fresh.{freshOf, openOf}
+use Rattle.producer.proofs.Submit.{SubmitReady, submit-ready}
 use Rattle.producer.proofs.Poll.{PollReady, poll-ready}
 use Rattle.producer.proofs.Opening.{OpenReady, open-ready}
 
@@ -36,9 +36,9 @@ pub opens : OpenReady (layout 4 0 64 68) 72 4 5
 unfolding openOf badLayout apart outside
 opens = open-ready 4 0 64 68 (replicate 72 0) (replicate 4 9) (replicate 5 9) refl
 
-pub submits : Ready four 72 (upTo 4) (replicate 4 0) 2 2 1
+pub submits : SubmitReady four 72 (upTo 4) (replicate 4 0) 2 2 1
 unfolding four freshOf submitRefusal badRecord badLent badLayout apart outside badChain upFrom
-submits = ready four 72 (upTo 4) (replicate 4 0) 2 2 1 refl
+submits = submit-ready four 72 (upTo 4) (replicate 4 0) 2 2 1 refl
 
 pub polls : PollReady out 72 found 4 (0 ∷ 0 ∷ 0 ∷ 1 ∷ [])
 unfolding out found pollRefusal badRecord badLent badLayout apart outside isUsed
@@ -48,8 +48,8 @@ pub record NoneRefused : Type 0 where
   pub next : nextRefusal four (upTo 4) (replicate 4 0) ≡ 0
   pub bytes : bytesRefusal four 72 ≡ 0
   pub since : sinceRefusal four 72 (at 3 true) ≡ 0
-  pub reset : allRefusal four 72 4 4 ≡ 0
+  pub reset : lentRefusal four 72 4 4 ≡ 0
 
 pub none-refused : NoneRefused
-unfolding four freshOf nextRefusal bytesRefusal sinceRefusal allRefusal badRecord badLent badLayout apart outside upFrom
+unfolding four freshOf nextRefusal bytesRefusal sinceRefusal lentRefusal badRecord badLent badLayout apart outside upFrom
 none-refused = record { next = refl; bytes = refl; since = refl; reset = refl }

@@ -16,7 +16,7 @@ use Rattle.cursor.specs.declared.RingCursor.{RingCursor}
 use Rattle.producer.specs.declared.RingProducer.{RingProducer}
 use Rattle.producer.specs.declared.Submitted.{Submitted}
 use Rattle.producer.specs.Outcome.{outcome}
-use Rattle.producer.specs.Submit.{answerOf, recordOf}
+use Rattle.producer.specs.Submit.{submittedAnswer, submittedRecord}
 use Rattle.producer.proofs.told.Statement.{statement}
 use Rattle.producer.proofs.told.Tie as tie
 
@@ -42,7 +42,7 @@ returns c =
     let g = c .before .before .answer .given in
     let l = a .ring .now in
     ap (λ (x : Bool). outcome (done (g .0 .0 ∷ bit x ∷ [])) (g .0 .1 .0) l [] []) (c .should-notify-evt .ensures)
-    ∙ ap (λ (x : Submitted). tellOf (a .old) (outcome (answerOf x) (recordOf x) l [] [])) (sym (g .1))
+    ∙ ap (λ (x : Submitted). tellOf (a .old) (outcome (submittedAnswer x) (submittedRecord x) l [] [])) (sym (g .1))
 
 returns-2 : tie.Need-returns-2
 returns-2 c =
@@ -50,7 +50,7 @@ returns-2 c =
     let g = c .before .answer2 .given in
     let l = a .ring .now in
     kept (a .old) (g .0 .0) (g .0 .1 .0) l
-    ∙ ap (λ (x : Submitted). tellOf (a .old) (outcome (answerOf x) (recordOf x) l [] [])) (sym (g .1))
+    ∙ ap (λ (x : Submitted). tellOf (a .old) (outcome (submittedAnswer x) (submittedRecord x) l [] [])) (sym (g .1))
 
 pub told-spec : {M : Type 1} → statement M
 told-spec =

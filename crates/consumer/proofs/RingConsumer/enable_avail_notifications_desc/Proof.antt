@@ -2,17 +2,16 @@
 -- Assumes nothing.
 use borrow.Author.Needs.{needs}
 use Prim.Native.Nat.{ℕ}
-use mathlib.Core.Path.{_≡_, sym, ap, ap₂, _∙_}
+use mathlib.Core.Path.{sym, ap₂, _∙_}
 use mathlib.Core.List.{List, []}
 use lib.ListN.{length}
-use Rattle.base.specs.Refusals.{numberOf}
 use Rattle.base.specs.Answer.{done, refused}
-use Rattle.base.proofs.Ladder.{named}
+use Rattle.base.proofs.Ladder.{refuses}
+use Rattle.event.specs.Event.{DESC}
 use Rattle.consumer.specs.declared.RingConsumer.{RingConsumer}
-use Rattle.consumer.specs.Record.{bytesRefusal}
 use Rattle.consumer.specs.Outcome.{changed}
 use Rattle.consumer.proofs.Ready.{bytes-below}
-use Rattle.consumer.proofs.Notices.{arm-refused, arm-done}
+use Rattle.consumer.proofs.Notices.{notice-refused, notice-done}
 use Rattle.consumer.proofs.RingConsumer.enable_avail_notifications_desc.Statement.{statement}
 use Rattle.consumer.proofs.RingConsumer.enable_avail_notifications_desc.Tie as tie
 
@@ -25,12 +24,9 @@ numbered-requires c κs = search needs
 returns : tie.Need-returns
 returns c =
     let a = c .before .before .before .before .args in
-    let n = bytesRefusal (a .self) (length (a .ring .now)) in
-    let e = c .before .before .bytes .ensures in
-    let z : n ≡ 0 → ⊥ = λ h. c .before .if1 .taken (e ∙ h) in
-    ap (λ (x : ℕ). changed (refused x) (a .self) (a .ring .now))
-    (named (numberOf (c .numbered .result)) (c .before .before .bytes .result) n (c .numbered .ensures) e z (bytes-below (a .self) (length (a .ring .now))))
-    ∙ sym (arm-refused (a .self) (a .ring .now) (a .off) (a .wrap) z)
+    refuses (λ (x : ℕ). changed (refused x) (a .self) (a .ring .now)) _ _ _ _
+    (c .numbered .ensures) (c .before .before .bytes .ensures) (c .before .if1 .taken) (bytes-below (a .self) (length (a .ring .now)))
+    (notice-refused (a .self) (a .ring .now) DESC _)
 
 arm-requires : tie.Need-arm-requires
 arm-requires c κs = search needs
@@ -43,9 +39,10 @@ same-length c = search needs
 
 returns-2 : tie.Need-returns-2
 returns-2 c =
-    let a = c .before .before .before .before .before .before .before .before .args in
+    let t = c .before .before .before .before .before in
+    let a = t .before .before .before .args in
     ap₂ (λ (q : RingConsumer) (l : List ℕ). changed (done []) q l) (c .shadowed .ensures) (c .before .before .before .arm .ensures)
-    ∙ sym (arm-done (a .self) (a .ring .now) (a .off) (a .wrap) (sym (c .before .before .before .before .before .before .bytes .ensures) ∙ c .before .before .before .before .before .if1 .left))
+    ∙ sym (notice-done (a .self) (a .ring .now) DESC _ (sym (t .before .bytes .ensures) ∙ t .if1 .left))
 
 pub enable-avail-notifications-desc-spec : {M : Type 1} → statement M
 enable-avail-notifications-desc-spec =

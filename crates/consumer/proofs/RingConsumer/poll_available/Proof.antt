@@ -11,7 +11,7 @@ use Rattle.base.specs.Answer.{done, refused}
 use Rattle.base.proofs.Ladder.{named}
 use Rattle.desc.specs.declared.Descriptor.{Descriptor}
 use Rattle.walk.specs.declared.Walk.{Walk}
-use Rattle.consumer.specs.Poll.{taken, headRefusal, walkRefusal, walkedOf, headOf, takenOf}
+use Rattle.consumer.specs.Poll.{taken, headRefusal, walkRefusal, walkedOf, headOf, polledOf}
 use Rattle.consumer.proofs.Poll.{WalkReady, walk-ready, walk-below, head-below, poll-stopped, poll-refused, poll-taken}
 use Rattle.consumer.proofs.RingConsumer.poll_available.Statement.{statement}
 use Rattle.consumer.proofs.RingConsumer.poll_available.Tie as tie
@@ -104,7 +104,7 @@ same-length-4 : tie.Need-same-length-4
 same-length-4 c = search needs
 
 returns-3 : tie.Need-returns-3
-unfolding takenOf
+unfolding polledOf
 returns-3 c =
     let t = c .before .before .before .before .before .before .before .before .before .before .before .before .before .before in
     let a = t .before .before .before .before .before .before .before .before .before .before .args in
@@ -112,7 +112,7 @@ returns-3 c =
     let d = t .before .before .before .before .before .look .result in
     let o = c .before .before .before .before .before .before .before .before .before .before .copy-out .ensures in
     (λ i. taken (done (d .id ∷ w .count ∷ w .readable ∷ [])) (c .past .ensures i) (c .before .before .before .set16 .ensures i) (o .0 i) (o .1 i))
-    ∙ ap₂ (λ (v : Walk) (x : Descriptor). takenOf (a .self) (a .ring .now) (x .id) v (a .counts .now) (a .addrs .now) (a .lens .now)) (t .before .before .chain .ensures) (t .before .before .before .before .before .look .ensures)
+    ∙ ap₂ (λ (v : Walk) (x : Descriptor). polledOf (a .self) (a .ring .now) (x .id) v (a .counts .now) (a .addrs .now) (a .lens .now)) (t .before .before .chain .ensures) (t .before .before .before .before .before .look .ensures)
     ∙ sym (poll-taken (a .self) (a .ring .now) (a .counts .now) (a .addrs .now) (a .lens .now) (at-head (t .before .before .before)) (sym (at-walk t) ∙ c .before .before .before .before .before .before .before .before .before .before .before .before .before .if2 .left))
 
 pub poll-available-spec : {M : Type 1} → statement M

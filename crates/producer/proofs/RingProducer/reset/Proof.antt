@@ -14,9 +14,10 @@ use Rattle.base.specs.Bytes.{putOf}
 use Rattle.desc.specs.declared.DescTable.{DescTable}
 use Rattle.event.specs.Event.{ENABLE, event, encodeOf}
 use Rattle.producer.specs.Outcome.{outcome}
-use Rattle.producer.specs.Fresh.{allRefusal}
+use Rattle.producer.specs.Record.{lentRefusal}
 use Rattle.base.proofs.Ladder.{named}
-use Rattle.producer.proofs.Reset.{all-below, reset-refused, reset-done}
+use Rattle.producer.proofs.Ready.{lent-below}
+use Rattle.producer.proofs.Reset.{reset-refused, reset-done}
 use Rattle.producer.proofs.RingProducer.reset.Statement.{statement}
 use Rattle.producer.proofs.RingProducer.reset.Tie as tie
 
@@ -29,12 +30,12 @@ numbered-requires c κs = search needs
 returns : tie.Need-returns
 returns c =
     let a = c .before .before .before .before .before .before .args in
-    let n = allRefusal (a .self) (length (a .ring .now)) (length (a .ids .now)) (length (a .counts .now)) in
+    let n = lentRefusal (a .self) (length (a .ring .now)) (length (a .ids .now)) (length (a .counts .now)) in
     let e = c .before .before .all .ensures in
     let z : n ≡ 0 → ⊥ = λ h. c .before .if1 .taken (e ∙ h) in
     ap (λ (x : ℕ). outcome (refused x) (a .self) (a .ring .now) (a .ids .now) (a .counts .now))
     (named (numberOf (c .numbered .result)) (c .before .before .all .result) n (c .numbered .ensures) e z
-    (all-below (a .self) (length (a .ring .now)) (length (a .ids .now)) (length (a .counts .now))))
+    (lent-below (a .self) (length (a .ring .now)) (length (a .ids .now)) (length (a .counts .now))))
     ∙ sym (reset-refused (a .self) (a .ring .now) (a .ids .now) (a .counts .now) z)
 
 cast-from-raw-parts : tie.Need-cast-from-raw-parts

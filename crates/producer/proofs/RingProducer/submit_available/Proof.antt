@@ -1,4 +1,4 @@
--- `producer::RingProducer::submit_available` meets its contract: each exit by the ladder, which `ready` inverts.
+-- `producer::RingProducer::submit_available` meets its contract: each exit by the ladder, which `submit-ready` inverts.
 -- Assumes nothing.
 use borrow.Author.Needs.{needs}
 use native.Mathlib.Omega.{arith}
@@ -13,18 +13,17 @@ use Rattle.base.proofs.Tests.{positive}
 use Rattle.producer.specs.declared.RingProducer.{RingProducer}
 use Rattle.producer.specs.Outcome.{outcome}
 use Rattle.producer.specs.Submit.{topOf, submitRefusal, elementOf, putChain, Written, submittedOf}
-use Rattle.producer.proofs.Ready.{Ready, ready}
-use Rattle.producer.proofs.Submit.{refusal-below, submit-refused, submit-done}
+use Rattle.producer.proofs.Submit.{SubmitReady, submit-ready, submit-below, submit-refused, submit-done}
 use Rattle.producer.proofs.RingProducer.submit_available.Statement.{statement}
 use Rattle.producer.proofs.RingProducer.submit_available.Tie as tie
 
 -- where nothing is refused
 is-ready :
     (c : tie.Else1) → let a = c .before .before .before .before .before .before .before .before .args in
-    Ready (a .self) (length (a .ring .now)) (a .ids .now) (a .counts .now) (length (a .addrs .now)) (length (a .lens .now)) (a .readable)
+    SubmitReady (a .self) (length (a .ring .now)) (a .ids .now) (a .counts .now) (length (a .addrs .now)) (length (a .lens .now)) (a .readable)
 is-ready c =
     let a = c .before .before .before .before .before .before .before .before .args in
-    ready (a .self) (length (a .ring .now)) (a .ids .now) (a .counts .now) (length (a .addrs .now)) (length (a .lens .now)) (a .readable)
+    submit-ready (a .self) (length (a .ring .now)) (a .ids .now) (a .counts .now) (length (a .addrs .now)) (length (a .lens .now)) (a .readable)
     (sym (c .before .submit .ensures) ∙ c .if1 .left)
 
 -- the ID that was read is the one on top of the stack
@@ -52,7 +51,7 @@ returns c =
     let z : n ≡ 0 → ⊥ = λ h. c .before .if1 .taken (e ∙ h) in
     ap (λ (x : ℕ). outcome (refused x) (a .self) (a .ring .now) (a .ids .now) (a .counts .now))
     (c .numbered .ensures ∙ ap listed e
-    ∙ listed-in n (positive z) (refusal-below (a .self) (length (a .ring .now)) (a .ids .now) (a .counts .now) (length (a .addrs .now)) (length (a .lens .now)) (a .readable)))
+    ∙ listed-in n (positive z) (submit-below (a .self) (length (a .ring .now)) (a .ids .now) (a .counts .now) (length (a .addrs .now)) (length (a .lens .now)) (a .readable)))
     ∙ sym (submit-refused (a .self) (a .ring .now) (a .ids .now) (a .counts .now) (a .addrs .now) (a .lens .now) (a .readable) z)
 
 below-requires : tie.Need-below-requires

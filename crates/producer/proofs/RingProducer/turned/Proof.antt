@@ -2,16 +2,15 @@
 -- Assumes nothing.
 use borrow.Author.Needs.{needs}
 use Prim.Native.Nat.{ℕ}
-use mathlib.Core.Path.{_≡_, sym, ap, ap₂, _∙_}
+use mathlib.Core.Path.{sym, ap₂, _∙_}
 use mathlib.Core.List.{List, []}
 use lib.ListN.{length}
-use Rattle.base.specs.Refusals.{numberOf}
 use Rattle.base.specs.Answer.{done, refused}
-use Rattle.base.proofs.Ladder.{named}
+use Rattle.base.proofs.Ladder.{refuses}
 use Rattle.producer.specs.declared.RingProducer.{RingProducer}
 use Rattle.producer.specs.Outcome.{changed}
-use Rattle.producer.specs.Notices.{bytesRefusal}
-use Rattle.producer.proofs.Notices.{bytes-below, turn-refused, turn-kept, turn-done}
+use Rattle.producer.proofs.Ready.{bytes-below}
+use Rattle.producer.proofs.Notices.{notice-refused, notice-done}
 use Rattle.producer.proofs.RingProducer.turned.Statement.{statement}
 use Rattle.producer.proofs.RingProducer.turned.Tie as tie
 
@@ -24,17 +23,9 @@ numbered-requires c κs = search needs
 returns : tie.Need-returns
 returns c =
     let a = c .before .before .before .before .args in
-    let n = bytesRefusal (a .self) (length (a .ring .now)) in
-    let e = c .before .before .bytes .ensures in
-    let z : n ≡ 0 → ⊥ = λ h. c .before .if1 .taken (e ∙ h) in
-    ap (λ (x : ℕ). changed (refused x) (a .self) (a .ring .now))
-    (named (numberOf (c .numbered .result)) (c .before .before .bytes .result) n (c .numbered .ensures) e z (bytes-below (a .self) (length (a .ring .now))))
-    ∙ sym (turn-refused (a .self) (a .ring .now) (a .flags) z)
-
-returns-2 : tie.Need-returns-2
-returns-2 c =
-    let a = c .before .before .before .before .before .args in
-    sym (turn-kept (a .self) (a .ring .now) (a .flags) (sym (c .before .before .before .bytes .ensures) ∙ c .before .before .if1 .left) (c .if2 .taken))
+    refuses (λ (x : ℕ). changed (refused x) (a .self) (a .ring .now)) _ _ _ _
+    (c .numbered .ensures) (c .before .before .bytes .ensures) (c .before .if1 .taken) (bytes-below (a .self) (length (a .ring .now)))
+    (notice-refused (a .self) (a .ring .now) (a .flags) _)
 
 turn-requires : tie.Need-turn-requires
 turn-requires c κs = search needs
@@ -45,11 +36,12 @@ shadowed-requires c κs = search needs
 same-length : tie.Need-same-length
 same-length c = search needs
 
-returns-3 : tie.Need-returns-3
-returns-3 c =
-    let a = c .before .before .before .before .before .before .before .before .before .before .args in
+returns-2 : tie.Need-returns-2
+returns-2 c =
+    let t = c .before .before .before .before .before in
+    let a = t .before .before .before .args in
     ap₂ (λ (q : RingProducer) (l : List ℕ). changed (done []) q l) (c .shadowed .ensures) (c .before .before .before .turn .ensures)
-    ∙ sym (turn-done (a .self) (a .ring .now) (a .flags) (sym (c .before .before .before .before .before .before .before .before .bytes .ensures) ∙ c .before .before .before .before .before .before .before .if1 .left) (c .before .before .before .before .before .if2 .left))
+    ∙ sym (notice-done (a .self) (a .ring .now) (a .flags) _ (sym (t .before .bytes .ensures) ∙ t .if1 .left))
 
 pub turned-spec : {M : Type 1} → statement M
 turned-spec =
@@ -58,8 +50,7 @@ turned-spec =
     bytes-requires
     numbered-requires
     returns
-    returns-2
     turn-requires
     shadowed-requires
     same-length
-    returns-3)
+    returns-2)

@@ -1,7 +1,7 @@
 -- `producer::refuse::all` meets its contract: the ladder is the definition's, rung by rung.
 -- Assumes nothing.
 use borrow.Author.Needs.{needs}
-use Rattle.producer.specs.Fresh.{allRefusal}
+use Rattle.producer.specs.Record.{lentRefusal}
 use Rattle.producer.proofs.refuse.all.Statement.{statement}
 use Rattle.producer.proofs.refuse.all.Tie as tie
 
@@ -18,7 +18,7 @@ pick8-requires-2 : tie.Need-pick8-requires-2
 pick8-requires-2 c κs = search needs
 
 returns : tie.Need-returns
-unfolding allRefusal
+unfolding lentRefusal
 returns c =
     simp (
       c .pick82 .ensures,

@@ -1,7 +1,7 @@
 -- `producer::refuse::bytes` meets its contract: the ladder is the definition's, rung by rung.
 -- Assumes nothing.
 use borrow.Author.Needs.{needs}
-use Rattle.producer.specs.Notices.{bytesRefusal}
+use Rattle.producer.specs.Record.{bytesRefusal}
 use Rattle.producer.proofs.refuse.bytes.Statement.{statement}
 use Rattle.producer.proofs.refuse.bytes.Tie as tie
 
