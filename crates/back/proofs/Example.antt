@@ -28,25 +28,25 @@ four = opened.freshOf (layout 4 0 64 68)
 pub reader : RingConsumer
 reader = freshOf (layout 4 0 64 68)
 
-pub zeros : List ℕ
+unfoldable pub zeros : List ℕ
 zeros = replicate 72 0
 
-pub none : List ℕ
+unfoldable pub none : List ℕ
 none = replicate 4 0
 
-pub addrs : List ℕ
+unfoldable pub addrs : List ℕ
 addrs = 4096 ∷ 8192 ∷ []
 
-pub lens : List ℕ
+unfoldable pub lens : List ℕ
 lens = 16 ∷ 32 ∷ []
 
-low-addrs : (i : ℕ) → getD addrs i 0 < 256 ^ 8
+pub low-addrs : (i : ℕ) → getD addrs i 0 < 256 ^ 8
 unfolding addrs
 low-addrs zero = omega arith
 low-addrs (suc zero) = omega arith
 low-addrs (suc (suc i)) = omega arith
 
-low-lens : (i : ℕ) → getD lens i 0 < 256 ^ 4
+pub low-lens : (i : ℕ) → getD lens i 0 < 256 ^ 4
 unfolding lens
 low-lens zero = omega arith
 low-lens (suc zero) = omega arith

@@ -21,7 +21,7 @@ use Rattle.consumer.specs.declared.Checkpoint.{Checkpoint}
 use Rattle.consumer.specs.Record.{badRecord, badLent, bytesRefusal}
 use Rattle.consumer.specs.Outcome.{Outcome}
 use Rattle.consumer.specs.Poll.{headRefusal, pastOf}
-use Rattle.consumer.specs.Complete.{completeRefusal, completedOf, tellOf}
+use Rattle.consumer.specs.Complete.{completeRefusal, completedOf, valued, tellOf}
 use Rattle.consumer.specs.Rollback.{handedRefusal, sameOf, staleOf, backOf}
 use Rattle.consumer.specs.Notices.{shadowOf}
 use Rattle.consumer.specs.Fresh.{freshOf}
@@ -91,6 +91,10 @@ module _ (old : RingCursor) (o : Outcome) where
       split (eqb (o .answer .number) 0)
       (λ t. simp t (let e = eqb-true (o .answer .number) 0 t in omega (arith, e)))
       (λ f. simp f)
+
+  pub tell-answer : tellOf old o .answer ≡ valued old o
+  unfolding tellOf
+  tell-answer = refl
 
   pub tell-end : tellOf old o .end ≡ o .end
   unfolding tellOf
