@@ -1,13 +1,13 @@
 -- What an accepted submission leaves in the bytes is the document's chain (VIRTIO 1.1, 2.7.5 and 2.7.6), at the positions that the avail
 -- cursor stands for.
 -- Assumes nothing.
-use Prim.Native.Nat.{ℕ, _+_, _*_, _^_, _≤_, _<_}
+use Prim.Native.Nat.{ℕ, _+_, _^_, _≤_, _<_}
 use mathlib.Core.Path.{_≡_, refl, sym, _∙_, ap, subst}
 use mathlib.Core.List.{List}
 use mathlib.Core.Bool.{Bool, true, false, not}
 use native.Mathlib.Omega.{arith}
 use lib.Dec.{ltb}
-use lib.ListN.{length, getD, take, drop}
+use lib.ListN.{length, getD}
 use borrow.Author.Tests.{ltb-false, le-ltb}
 use Rattle.base.proofs.Words.{Bytes}
 use Rattle.cursor.specs.declared.RingCursor.{RingCursor}
@@ -15,7 +15,7 @@ use Rattle.cursor.specs.Cursor.{steps}
 use Rattle.cursor.proofs.Laws.{steps-below}
 use Rattle.desc.specs.Desc.{markAvail}
 use Rattle.ring.specs.Slots.{placeOf}
-use Rattle.virtio.specs.Packed.{image, pvirtq-desc, Available}
+use Rattle.virtio.specs.Packed.{Available}
 use Rattle.virtio.specs.Chains.{AvailableAt, ChainAt}
 use Rattle.virtio.proofs.Rounds.{same-bits, mark-available, mark-available-others}
 use Rattle.producer.specs.declared.RingProducer.{RingProducer}
@@ -28,7 +28,7 @@ use Rattle.producer.proofs.Touch.{submit-ring, submit-length}
 use Rattle.back.proofs.Back.{written}
 use Rattle.document.specs.Document.{cursorAt, elementIn}
 use Rattle.document.proofs.Positions.{steps-position}
-use Rattle.document.proofs.Slots.{slot-bytes, slot-there, unset}
+use Rattle.document.proofs.Slots.{slot-bytes, slot-there, moved, unset}
 
 module _ (p : RingProducer) (ring ids counts addrs lens : List ℕ) (readable : ℕ)
     (h : submitRefusal p (length ring) ids counts (length addrs) (length lens) readable ≡ 0)
@@ -77,11 +77,9 @@ module _ (p : RingProducer) (ring ids counts addrs lens : List ℕ) (readable : 
       omega (arith, steps-below size j (p .avail) (is-ready .sound .avail), is-ready .lent .bytes-whole .table, submit-length p ring ids counts addrs lens readable h) in
       record {
         flags = d .flags;
-        word = r .flags;
-        there =
-            ap (λ (x : RingCursor). take 16 (drop (table + 16 * x .head) after)) (sym (cursor j))
-            ∙ slot-there table c after d after-bytes whole (written p ring ids counts addrs lens readable h aw lw .slots j l)
-            ∙ (λ i. image (pvirtq-desc (s .addr i) (s .len i) (s .id i) (d .flags)));
+        desc =
+            moved (ap (λ (x : RingCursor). x .head) (cursor j)) (s .addr) (s .len) (s .id)
+            (slot-there table c after d after-bytes whole r (written p ring ids counts addrs lens readable h aw lw .slots j l));
         round = subst (λ (w : Bool). Available (d .flags) w) (ap (λ (x : RingCursor). x .wrap) (cursor j)) (mark-available e (c .wrap));
         write = sym (b .write) ∙ s .write;
         next = sym (b .next) ∙ s .next;
@@ -107,6 +105,11 @@ module _ (p : RingProducer) (ring ids counts addrs lens : List ℕ) (readable : 
 
       first : (i j : ℕ) → i < j → not (ltb i readable) ≡ true → not (ltb j readable) ≡ true
       first i j l e = let g = ltb-false i readable (off (ltb i readable) e) in ap not (le-ltb j readable (omega arith))
+
+  -- and so has every other
+  pub submitted-ids : (j : ℕ) → submitted-chain .ids j ≡ id
+  unfolding submitted-chain
+  submitted-ids j = refl
 
   -- and the avail cursor is n positions on
   pub submitted-cursor : submitOf p ring ids counts addrs lens readable .end .avail ≡ cursorAt size (q + n)

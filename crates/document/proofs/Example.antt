@@ -2,10 +2,12 @@
 -- Assumes nothing.
 use Prim.Native.Nat.{ℕ, _<_}
 use mathlib.Core.Path.{_≡_, refl}
-use mathlib.Core.List.{List}
+use mathlib.Core.List.{List, [], _∷_}
 use mathlib.Core.Bool.{true, false}
 use native.Mathlib.Omega.{arith}
 use lib.ListN.{set, replicate, getD-replicate, length-replicate, List·getD-eq-default}
+use lib.Seq.{sets}
+use Rattle.base.specs.Answer.{done}
 use Rattle.base.proofs.Tests.{by-lt}
 use Rattle.base.proofs.Words.{Bytes}
 use Rattle.cursor.specs.Cursor.{at, fresh, steps}
@@ -19,14 +21,19 @@ use Rattle.virtio.proofs.Positions.{goes-on, flips}
 use Rattle.producer.specs.declared.RingProducer.{RingProducer}
 use Rattle.producer.specs.Record as made
 use Rattle.producer.specs.Submit.{submitRefusal, submitOf}
+use Rattle.producer.specs.Poll as used
+use Rattle.producer.proofs.Touch.{submit-length}
 use Rattle.consumer.specs.declared.RingConsumer.{RingConsumer}
 use Rattle.consumer.specs.Record as taken
 use Rattle.consumer.specs.Complete.{completeRefusal, completeOf}
+use Rattle.consumer.specs.Poll.{taken as picked, pastOf, pollOf}
+use Rattle.consumer.proofs.Touch.{complete-length}
 use Rattle.back.proofs.Example.{zeros, none, addrs, lens, low-addrs, low-lens}
 use Rattle.document.specs.Document.{cursorAt, elementIn}
 use Rattle.document.proofs.Positions.{cursor-position, has-position, reached-told, told-reached}
-use Rattle.document.proofs.Chains.{submitted-chain, submitted-cursor}
+use Rattle.document.proofs.Chains.{submitted-chain, submitted-ids, submitted-cursor}
 use Rattle.document.proofs.Used.{completed-slot, completed-cursor}
+use Rattle.document.proofs.Polled.{chain-polled, used-polled}
 
 -- ---- positions
 
@@ -77,13 +84,30 @@ submits : submitRefusal writer 72 (upTo 4) none 2 2 1 ≡ 0
 unfolding none submitRefusal made.badRecord made.badLent badLayout apart outside badChain upFrom
 submits = refl
 
-pub over-the-end : ChainAt (submitOf writer zeros (upTo 4) none addrs lens 1 .ring) 0 4 3 2 3 (elementIn addrs lens 1)
-unfolding zeros none addrs lens upFrom
+pub sent : List ℕ
+sent = submitOf writer zeros (upTo 4) none addrs lens 1 .ring
+
+pub over-the-end : ChainAt sent 0 4 3 2 3 (elementIn addrs lens 1)
+unfolding sent zeros none addrs lens upFrom
 over-the-end = submitted-chain writer zeros (upTo 4) none addrs lens 1 submits zeros-bytes low-addrs low-lens 3 refl
 
 pub past-the-end : submitOf writer zeros (upTo 4) none addrs lens 1 .end .avail ≡ at 1 false
 unfolding zeros none addrs lens upFrom
 past-the-end = submitted-cursor writer zeros (upTo 4) none addrs lens 1 submits zeros-bytes low-addrs low-lens 3 refl
+
+-- a device three slots on polls it
+
+abbrev poller : RingConsumer
+poller = record { layout = layout 4 0 64 68; avail = at 3 true; used = at 3 true; inflight = 0; shadow = 0 }
+
+pub polled :
+    pollOf poller sent none none none
+    ≡ picked (done (3 ∷ 2 ∷ 1 ∷ [])) (pastOf poller (at 1 false) 2) (set none 3 2) (sets none 0 addrs) (sets none 0 lens)
+unfolding sent over-the-end zeros none addrs lens upFrom taken.badRecord taken.badLent badLayout apart outside
+polled =
+    chain-polled poller sent none none none 3 3 addrs lens 1 over-the-end
+    (submitted-ids writer zeros (upTo 4) none addrs lens 1 submits zeros-bytes low-addrs low-lens 3 refl 0) refl (omega arith) refl
+    refl (rw (submit-length writer zeros (upTo 4) none addrs lens 1 submits) refl) (omega arith) (omega arith) (omega arith) refl (omega arith)
 
 -- ---- the completion of a chain of two with ID 3, at slot 3 of the first round
 
@@ -97,10 +121,24 @@ completes : completeRefusal reader 72 3 held ≡ 0
 unfolding held none completeRefusal taken.badRecord taken.badLent badLayout apart outside
 completes = refl
 
-pub used-at-three : UsedAt (completeOf reader zeros held 3 32 .ring) 0 4 3 3 32 false
-unfolding zeros held none
+pub completed : List ℕ
+completed = completeOf reader zeros held 3 32 .ring
+
+pub used-at-three : UsedAt completed 0 4 3 3 32 false
+unfolding completed zeros held none
 used-at-three = completed-slot reader zeros held 3 32 completes zeros-bytes (omega arith) 3 refl
 
 pub used-past : completeOf reader zeros held 3 32 .end .used ≡ at 1 false
 unfolding zeros held none
 used-past = completed-cursor reader zeros held 3 32 completes zeros-bytes (omega arith) 3 refl
+
+-- a driver that has it out gets it back
+
+abbrev getter : RingProducer
+getter = record { layout = layout 4 0 64 68; avail = at 1 false; used = at 3 true; free = 2; height = 3; shadow = 0 }
+
+pub got-back : used.pollOf getter completed (upTo 4) held .answer ≡ done (3 ∷ 32 ∷ [])
+unfolding completed zeros held none upFrom made.badRecord made.badLent badLayout apart outside
+got-back =
+    used-polled getter completed (upTo 4) held 3 3 32 false used-at-three refl
+    refl (rw (complete-length reader zeros held 3 32 completes) refl) (omega arith) (omega arith) (omega arith) (omega arith)

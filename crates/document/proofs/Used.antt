@@ -1,12 +1,12 @@
 -- What an accepted completion leaves in the bytes is the document's used descriptor (VIRTIO 1.1, 2.7.5) but for WRITE, at the position that
 -- the used cursor stands for.
 -- Assumes nothing.
-use Prim.Native.Nat.{ℕ, _+_, _*_, _^_, _≤_, _<_}
+use Prim.Native.Nat.{ℕ, _+_, _^_, _≤_, _<_}
 use mathlib.Core.Path.{_≡_, refl, sym, _∙_, ap, subst}
 use mathlib.Core.List.{List}
 use mathlib.Core.Bool.{Bool, false}
 use native.Mathlib.Omega.{arith}
-use lib.ListN.{length, getD, take, drop}
+use lib.ListN.{length, getD}
 use Rattle.base.proofs.Words.{Bytes}
 use Rattle.cursor.specs.declared.RingCursor.{RingCursor}
 use Rattle.cursor.specs.Cursor.{steps}
@@ -14,8 +14,8 @@ use Rattle.desc.specs.Desc.{descriptor, markUsed}
 use Rattle.desc.proofs.Flags.{used-ranged, used-keeps}
 use Rattle.ring.specs.Slots.{placeOf, slotPut}
 use Rattle.ring.proofs.Frames.{slot-length, slot-same}
-use Rattle.virtio.specs.Packed.{image, pvirtq-desc, Used}
-use Rattle.virtio.specs.Chains.{UsedAt}
+use Rattle.virtio.specs.Packed.{Used}
+use Rattle.virtio.specs.Chains.{slotAt, DescAt, UsedAt}
 use Rattle.virtio.proofs.Rounds.{same-bits, mark-used, mark-used-others}
 use Rattle.consumer.specs.declared.RingConsumer.{RingConsumer}
 use Rattle.consumer.specs.Outcome as taken
@@ -24,7 +24,7 @@ use Rattle.consumer.proofs.Complete.{CompleteReady, complete-ready, complete-do
 use Rattle.consumer.proofs.Goes.{completed-is}
 use Rattle.document.specs.Document.{cursorAt}
 use Rattle.document.proofs.Positions.{steps-position}
-use Rattle.document.proofs.Slots.{slot-bytes, slot-there, unset}
+use Rattle.document.proofs.Slots.{slot-bytes, slot-there, moved, unset}
 
 module _ (p : RingConsumer) (ring counts : List ℕ) (id len : ℕ) (h : completeRefusal p (length ring) id counts ≡ 0)
     (ring-bytes : Bytes ring) (lw : len < 256 ^ 4) (q : ℕ) (stands : p .used ≡ cursorAt (p .layout .size) q) where
@@ -54,12 +54,11 @@ module _ (p : RingConsumer) (ring counts : List ℕ) (id len : ℕ) (h : complet
       record {
         addr = 0;
         flags = d .flags;
-        word = r .flags;
-        there =
-            (λ i. take 16 (drop (table + 16 * sym stands i .head) (f i)))
-            ∙ slot-there table (p .used) (slotPut table (p .used) d ring) d (slot-bytes table (p .used) d ring ring-bytes)
-            (omega (arith, slot-length table (p .used) d ring)) (slot-same table (p .used) d ring whole r)
-            ∙ (λ i. image (pvirtq-desc (s .addr i) (s .len i) (s .id i) (d .flags)));
+        desc =
+            subst (λ (l : List ℕ). DescAt l table (slotAt size q) 0 len id (d .flags)) (sym f)
+            (moved (ap (λ (x : RingCursor). x .head) stands) (s .addr) (s .len) (s .id)
+            (slot-there table (p .used) (slotPut table (p .used) d ring) d (slot-bytes table (p .used) d ring ring-bytes)
+            (omega (arith, slot-length table (p .used) d ring)) r (slot-same table (p .used) d ring whole r)));
         round = subst (λ (b : Bool). Used (d .flags) b) (ap (λ (x : RingCursor). x .wrap) stands) (mark-used e w);
         write = sym (same-bits (d .flags) .write) ∙ s .flags .write;
         reserved = λ k. unset 0 (d .flags) k (mark-used-others e w (omega arith) k) (refl, omega arith);

@@ -1,1 +1,1 @@
-// What the ends write, count and read is VIRTIO 1.1's: theory alone, no functions.
+// What the ends write, read and count is VIRTIO 1.1's: theory alone, no functions.

@@ -21,9 +21,13 @@ counterAt size p = eqb (p / size % 2) 0
 
 -- ---- slots of a table that begins at a byte of some memory
 
--- 2.7.13: the descriptor in slot s, sixteen bytes a slot
-abbrev pub DescAt : List ℕ → ℕ → ℕ → ℕ → ℕ → ℕ → ℕ → Type 0
-DescAt bytes table s addr len id flags = take 16 (drop (table + 16 * s) bytes) ≡ image (pvirtq-desc addr len id flags)
+-- 2.7.13: the descriptor in slot s, sixteen bytes a slot, its fields as wide as there
+pub record DescAt (bytes : List ℕ) (table s addr len id flags : ℕ) : Type 0 where
+  pub addr-64 : addr < 2 ^ 64
+  pub len-32 : len < 2 ^ 32
+  pub id-16 : id < 2 ^ 16
+  pub flags-16 : flags < 2 ^ 16
+  pub there : take 16 (drop (table + 16 * s) bytes) ≡ image (pvirtq-desc addr len id flags)
 
 -- an element of a chain: its address and length, and whether it is device-writable
 pub record Element : Type 0 where
@@ -36,8 +40,7 @@ pub record Element : Type 0 where
 -- driver's round at that slot (2.7.1)
 pub record AvailableAt (bytes : List ℕ) (table size p : ℕ) (e : Element) (id : ℕ) (follows : Bool) : Type 0 where
   pub flags : ℕ
-  pub word : flags < 2 ^ 16
-  pub there : DescAt bytes table (slotAt size p) (e .addr) (e .len) id flags
+  pub desc : DescAt bytes table (slotAt size p) (e .addr) (e .len) id flags
   pub round : Available flags (counterAt size p)
   pub write : bitAt WRITE-BIT flags ≡ e .writable
   pub next : bitAt NEXT-BIT flags ≡ follows
@@ -61,8 +64,7 @@ pub record ChainAt (bytes : List ℕ) (table size p n buffer : ℕ) (element : �
 pub record UsedAt (bytes : List ℕ) (table size p id len : ℕ) (wrote : Bool) : Type 0 where
   pub addr : ℕ
   pub flags : ℕ
-  pub word : flags < 2 ^ 16
-  pub there : DescAt bytes table (slotAt size p) addr len id flags
+  pub desc : DescAt bytes table (slotAt size p) addr len id flags
   pub round : Used flags (counterAt size p)
   pub write : bitAt WRITE-BIT flags ≡ wrote
   pub reserved : (k : ℕ) → Reserved k → bitAt k flags ≡ false
