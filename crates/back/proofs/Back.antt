@@ -1,5 +1,5 @@
--- Reading back a written chain gives the chain: from slots in which a chain stands, as an accepted submission leaves them, a poll hands out
--- its ID, its elements and its readable count.
+-- Reading back a written chain gives the chain: from slots in which a chain stands, as an accepted submission leaves them, or is legible at all,
+-- a poll hands out its ID, its elements and its readable count.
 -- Assumes nothing.
 use Prim.Native.Nat.{ℕ, _+_, _^_, _≤_, _<_}
 use mathlib.Core.Path.{_≡_, refl, sym, _∙_, ap}
@@ -63,8 +63,52 @@ written p ring ids counts addrs lens readable h aw lw =
           j q few (r .sound .avail) (r .lent .bytes-whole .table);
     }
 
+-- what a poll looks at of a chain: the elements' fields in the slots from a cursor on, and the head's ID and round. Tail IDs and tail marks
+-- are none of it
+pub record Legible (l : Layout) (bytes : List ℕ) (c : RingCursor) (id : ℕ) (addrs lens : List ℕ) (readable : ℕ) : Type 0 where
+  pub some-elements : 0 < length addrs
+  pub few : length addrs ≤ l .size
+  pub equal : length addrs ≡ length lens
+  pub within : readable ≤ length addrs
+  pub addr : (j : ℕ) → j < length addrs → slotOf (l .table) (steps (l .size) j c) bytes .addr ≡ getD addrs j 0
+  pub len : (j : ℕ) → j < length addrs → slotOf (l .table) (steps (l .size) j c) bytes .len ≡ getD lens j 0
+  pub spelt : Spelt (l .table) (l .size) bytes c (length addrs) readable
+  pub head-id : slotOf (l .table) c bytes .id ≡ id
+  pub head-avail : isAvail (slotOf (l .table) c bytes .flags) (c .wrap) ≡ true
+
+-- a chain that stands is legible
+pub legible :
+    (l : Layout) (bytes : List ℕ) (c : RingCursor) (id : ℕ) (addrs lens : List ℕ) (readable : ℕ) → Stands l bytes c id addrs lens readable
+    → Legible l bytes c id addrs lens readable
+legible l bytes c id addrs lens readable s =
+    record {
+      some-elements = s .some-elements;
+      few = s .few;
+      equal = s .equal;
+      within = s .within;
+      addr = λ j h. says j h .addr;
+      len = λ j h. says j h .len;
+      spelt = record { next = λ j h. says j h .next; write = λ j h. says j h .write; indirect = λ j h. says j h .indirect };
+      head-id = ap (λ (d : Descriptor). d .id) head ∙ says 0 (s .some-elements) .id;
+      head-avail =
+          ap (λ (d : Descriptor). isAvail (d .flags) (c .wrap)) (head ∙ s .slots 0 (s .some-elements))
+          ∙ avail-marked (elementOf id addrs lens readable 0) (steps (l .size) 0 c .wrap) (c .wrap)
+          ∙ ap (λ (x : RingCursor). Bool·beq (x .wrap) (c .wrap)) (steps-none (l .size) c)
+          ∙ same (c .wrap);
+    }
+  where
+    says : (j : ℕ) → j < length addrs → Says id addrs lens readable j (slotOf (l .table) (steps (l .size) j c) bytes)
+    says j h = rw (s .slots j h) (marked-says id addrs lens readable j (steps (l .size) j c .wrap))
+
+    head : slotOf (l .table) c bytes ≡ slotOf (l .table) (steps (l .size) 0 c) bytes
+    head = ap (λ (x : RingCursor). slotOf (l .table) x bytes) (sym (steps-none (l .size) c))
+
+    same : (b : Bool) → Bool·beq b b ≡ true
+    same true = refl
+    same false = refl
+
 module _ (q : RingConsumer) (bytes : List ℕ) (id : ℕ) (addrs lens : List ℕ) (readable : ℕ)
-    (s : Stands (q .layout) bytes (q .avail) id addrs lens readable) where
+    (s : Legible (q .layout) bytes (q .avail) id addrs lens readable) where
   abbrev n : ℕ
   n = length addrs
 
@@ -74,37 +118,9 @@ module _ (q : RingConsumer) (bytes : List ℕ) (id : ℕ) (addrs lens : List ℕ
   abbrev table : ℕ
   table = q .layout .table
 
-  -- the chain's j-th slot, and what it says
+  -- the chain's j-th slot
   abbrev slot : ℕ → Descriptor
   slot j = slotOf table (steps size j (q .avail)) bytes
-
-  slot-says : (j : ℕ) → j < n → Says id addrs lens readable j (slot j)
-  slot-says j h = rw (s .slots j h) (marked-says id addrs lens readable j (steps size j (q .avail) .wrap))
-
-  spelt : Spelt table size bytes (q .avail) n readable
-  spelt =
-      record {
-        next = λ j h. slot-says j h .next;
-        write = λ j h. slot-says j h .write;
-        indirect = λ j h. slot-says j h .indirect;
-      }
-
-  head-is : headOf q bytes ≡ slot 0
-  head-is = ap (λ (c : RingCursor). slotOf table c bytes) (sym (steps-none size (q .avail)))
-
-  pub head-id : headOf q bytes .id ≡ id
-  head-id = ap (λ (d : Descriptor). d .id) head-is ∙ slot-says 0 (s .some-elements) .id
-
-  pub head-avail : isAvail (headOf q bytes .flags) (q .avail .wrap) ≡ true
-  head-avail =
-      ap (λ (d : Descriptor). isAvail (d .flags) (q .avail .wrap)) (head-is ∙ s .slots 0 (s .some-elements))
-      ∙ avail-marked (elementOf id addrs lens readable 0) (steps size 0 (q .avail) .wrap) (q .avail .wrap)
-      ∙ ap (λ (c : RingCursor). Bool·beq (c .wrap) (q .avail .wrap)) (steps-none size (q .avail))
-      ∙ same (q .avail .wrap)
-    where
-      same : (b : Bool) → Bool·beq b b ≡ true
-      same true = refl
-      same false = refl
 
   -- what is copied out of them is what was lent
   copied :
@@ -116,16 +132,16 @@ module _ (q : RingConsumer) (bytes : List ℕ) (id : ℕ) (addrs lens : List ℕ
       (λ i h. slots-at table size bytes A n i (q .avail) (omega (arith, k)) ∙ f i (omega (arith, k)))
 
   addrs-back : map addrOf (slotsFrom table size bytes (q .avail) n) ≡ addrs
-  addrs-back = copied addrOf addrs refl (λ j h. slot-says j h .addr)
+  addrs-back = copied addrOf addrs refl (s .addr)
 
   lens-back : map lenOf (slotsFrom table size bytes (q .avail) n) ≡ lens
-  lens-back = copied lenOf lens (sym (s .equal)) (λ j h. slot-says j h .len)
+  lens-back = copied lenOf lens (sym (s .equal)) (s .len)
 
   -- the walk from the head on comes to the chain's end, and counts what was submitted
   pub walk-back :
       walkedOf q bytes
       ≡ record { at = steps size n (q .avail); count = n; readable = readable; more = false; writing = ltb readable n; bad = false }
-  walk-back = walk-whole table size bytes (q .avail) n readable spelt (s .some-elements) (s .few) (s .within)
+  walk-back = walk-whole table size bytes (q .avail) n readable (s .spelt) (s .some-elements) (s .few) (s .within)
 
   module _ (held outs louts : List ℕ) where
     -- nothing but the record, what is lent, an ID that is not the ring's or is held, or too much in flight can be in the poll's way
@@ -135,12 +151,12 @@ module _ (q : RingConsumer) (bytes : List ℕ) (id : ℕ) (addrs lens : List ℕ
         → pollRefusal q bytes held (length outs) (length louts) ≡ 0
     poll-accepted r l a b low z i =
         poll-goes q bytes held outs louts
-        (head-goes q (length bytes) (headOf q bytes) (length held) (length outs) (length louts) r l a b head-avail 0)
+        (head-goes q (length bytes) (headOf q bytes) (length held) (length outs) (length louts) r l a b (s .head-avail) 0)
         (walk-goes q (walkedOf q bytes) (headOf q bytes .id) held
         (ap (λ (w : Walk). w .bad) walk-back)
         (ap (λ (w : Walk). w .more) walk-back)
-        (omega (arith, head-id))
-        (ap (λ (k : ℕ). getD held k 0) head-id ∙ z)
+        (omega (arith, s .head-id))
+        (ap (λ (k : ℕ). getD held k 0) (s .head-id) ∙ z)
         (omega (arith, ap (λ (w : Walk). w .count) walk-back)))
 
     -- and it hands out the chain: its ID, its elements, its readable count
@@ -149,7 +165,7 @@ module _ (q : RingConsumer) (bytes : List ℕ) (id : ℕ) (addrs lens : List ℕ
         → pollOf q bytes held outs louts
         ≡ taken (done (id ∷ n ∷ readable ∷ [])) (pastOf q (steps size n (q .avail)) n) (set held id n) (sets outs 0 addrs) (sets louts 0 lens)
     poll-back g =
-        let e = head-id in
+        let e = s .head-id in
         poll-takes q bytes held outs louts g
         ∙ (λ i.
         taken (done (e i ∷ walk-back i .count ∷ walk-back i .readable ∷ [])) (pastOf q (walk-back i .at) (walk-back i .count))

@@ -20,7 +20,7 @@ use Rattle.consumer.specs.declared.RingConsumer.{RingConsumer}
 use Rattle.consumer.specs.Record.{badRecord, badLent}
 use Rattle.consumer.specs.Poll.{taken, pastOf, pollOf}
 use Rattle.consumer.specs.Fresh.{freshOf}
-use Rattle.back.proofs.Back.{Stands, written, poll-accepted, poll-back}
+use Rattle.back.proofs.Back.{Stands, written, legible, poll-accepted, poll-back}
 
 pub four : RingProducer
 four = opened.freshOf (layout 4 0 64 68)
@@ -28,25 +28,25 @@ four = opened.freshOf (layout 4 0 64 68)
 pub reader : RingConsumer
 reader = freshOf (layout 4 0 64 68)
 
-pub zeros : List ℕ
+unfoldable pub zeros : List ℕ
 zeros = replicate 72 0
 
-pub none : List ℕ
+unfoldable pub none : List ℕ
 none = replicate 4 0
 
-pub addrs : List ℕ
+unfoldable pub addrs : List ℕ
 addrs = 4096 ∷ 8192 ∷ []
 
-pub lens : List ℕ
+unfoldable pub lens : List ℕ
 lens = 16 ∷ 32 ∷ []
 
-low-addrs : (i : ℕ) → getD addrs i 0 < 256 ^ 8
+pub low-addrs : (i : ℕ) → getD addrs i 0 < 256 ^ 8
 unfolding addrs
 low-addrs zero = omega arith
 low-addrs (suc zero) = omega arith
 low-addrs (suc (suc i)) = omega arith
 
-low-lens : (i : ℕ) → getD lens i 0 < 256 ^ 4
+pub low-lens : (i : ℕ) → getD lens i 0 < 256 ^ 4
 unfolding lens
 low-lens zero = omega arith
 low-lens (suc zero) = omega arith
@@ -68,6 +68,7 @@ pub handed-out :
     ≡ taken (done (3 ∷ 2 ∷ 1 ∷ [])) (pastOf reader (steps 4 2 fresh) 2) (set none 3 2) (sets none 0 addrs) (sets none 0 lens)
 unfolding four zeros none addrs lens bytes reader freshOf opened.freshOf upFrom badRecord badLent badLayout apart outside
 handed-out =
-    poll-back reader bytes 3 addrs lens 1 stands none none none
-    (poll-accepted reader bytes 3 addrs lens 1 stands none none none
+    let s = legible (layout 4 0 64 68) bytes fresh 3 addrs lens 1 stands in
+    poll-back reader bytes 3 addrs lens 1 s none none none
+    (poll-accepted reader bytes 3 addrs lens 1 s none none none
     refl (rw (submit-length four zeros (upTo 4) none addrs lens 1 accepted) refl) (omega arith) (omega arith) (omega arith) refl (omega arith))

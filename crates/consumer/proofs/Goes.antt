@@ -22,7 +22,7 @@ use Rattle.consumer.specs.declared.Checkpoint.{Checkpoint}
 use Rattle.consumer.specs.Record.{badRecord, badLent, bytesRefusal}
 use Rattle.consumer.specs.Outcome.{Outcome, outcome}
 use Rattle.consumer.specs.Poll.{headRefusal, pastOf}
-use Rattle.consumer.specs.Complete.{completeRefusal, completedOf, tellOf}
+use Rattle.consumer.specs.Complete.{completeRefusal, completedOf, valued, tellOf}
 use Rattle.consumer.specs.Rollback.{handedRefusal, sameOf, staleOf, backOf}
 use Rattle.consumer.specs.Notices.{shadowOf}
 use Rattle.consumer.specs.Fresh.{freshOf}
@@ -89,6 +89,10 @@ module _ (old : RingCursor) (o : Outcome) where
   pub tell-number : tellOf old o .answer .number ≡ o .answer .number
   unfolding tellOf
   tell-number = valued-number _ (o .answer)
+
+  pub tell-answer : tellOf old o .answer ≡ valued old o
+  unfolding tellOf
+  tell-answer = refl
 
   pub tell-leaves : tellOf old o ≡ outcome (tellOf old o .answer) (o .end) (o .ring) (o .counts)
   unfolding tellOf

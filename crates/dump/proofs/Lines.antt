@@ -17,7 +17,7 @@ use Rattle.desc.specs.Flags.{isAvail, isUsed}
 use Rattle.desc.specs.Desc.{decodeOf}
 use Rattle.window.specs.declared.Slot.{Slot}
 use Rattle.window.specs.declared.Slot.the-variants.{Holds, Nothing}
-use Rattle.window.specs.Window.{answerOf, slotOf}
+use Rattle.window.specs.Window.{answerOf, shownOf}
 use Rattle.window.proofs.Laws.{answer-same}
 use Rattle.window.proofs.Shows.{load-and-decode, nothing-then, only-then}
 use Rattle.text.specs.Text.{words, rightOf, hexOf, Written, putText, puts}
@@ -81,7 +81,7 @@ module _ (l : List ℕ) (table size : ℕ) where
   line i t = simp t
 
   -- a slot that the window holds has its line
-  pub held : (i : ℕ) (d : Descriptor) → answerOf (Holds d) ≡ slotOf (drop table l) size i → ringLine l table size (suc i) ≡ slotTexts i d
+  pub held : (i : ℕ) (d : Descriptor) → answerOf (Holds d) ≡ shownOf (drop table l) size i → ringLine l table size (suc i) ≡ slotTexts i d
   held i d e =
       by-lt i size
       (λ h. by-lt (length l) (table + i * 16 + 16)
@@ -96,7 +96,7 @@ module _ (l : List ℕ) (table size : ℕ) where
 
   -- one that it does not hold has none, but for the first of them
   pub absent :
-      (i : ℕ) → answerOf Nothing ≡ slotOf (drop table l) size i
+      (i : ℕ) → answerOf Nothing ≡ shownOf (drop table l) size i
       → ringLine l table size (suc i) ≡ cond (eqb i whole && ltb i size) (missingTexts i size) []
   unfolding ringLine
   absent i e = simp (le-ltb i whole (whole-above i (only-then l table size i (sym e))))

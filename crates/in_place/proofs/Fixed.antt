@@ -11,24 +11,24 @@ use Rattle.base.specs.Determined.{Determined, both}
 use Rattle.base.proofs.Determine.{by-answer}
 use Rattle.cursor.specs.declared.RingCursor.{RingCursor}
 use Rattle.cursor.specs.Cursor.{Outcome}
-use Rattle.in_place.specs.declared.Moved.{Moved}
+use Rattle.in_place.specs.declared.Left.{Left}
 use Rattle.in_place.specs.InPlace.{outcomeOf}
 use Rattle.in_place.proofs.Laws.{outcome-same}
-use Rattle.in_place.proofs.advanced.Reads as advanced
+use Rattle.in_place.proofs.advance_own.Reads as advance-own
 use Rattle.in_place.proofs.advance as advance
 use Rattle.in_place.proofs.advance_by as advance-by
 
 abbrev seen : ℕ × RingCursor → Outcome
 seen x = outcomeOf (x .0) (x .1)
 
-abbrev parts : Moved → ℕ × RingCursor
+abbrev parts : Left → ℕ × RingCursor
 parts m = (m .number, m .cursor)
 
-moved-same : (x y : Moved) → seen (parts x) ≡ seen (parts y) → x ≡ y
-moved-same x y h = ap (λ (z : ℕ × RingCursor). record { number = z .0; cursor = z .1 }) (outcome-same (parts x) (parts y) h)
+left-same : (x y : Left) → seen (parts x) ≡ seen (parts y) → x ≡ y
+left-same x y h = ap (λ (z : ℕ × RingCursor). record { number = z .0; cursor = z .1 }) (outcome-same (parts x) (parts y) h)
 
-pub advanced-fixed : Determined advanced.Post (λ r s. r)
-advanced-fixed = by-answer _ _ (λ (x : Moved). seen (parts x)) moved-same _ (λ κ a r s p. p)
+pub advance-own-fixed : Determined advance-own.Post (λ r s. r)
+advance-own-fixed = by-answer _ _ (λ (x : Left). seen (parts x)) left-same _ (λ κ a r s p. p)
 
 -- Of a function that is lent a struct no `Post` is generated. So its clause is read here, as a generated `Reads` reads one.
 abbrev Step : Type 0

@@ -9,9 +9,9 @@ use Rattle.cursor.specs.Cursor.{valuesOf, Outcome, outcome}
 
 -- the answer that a number tells beside the cursor that is left: 0 is success, whose values are the cursor's, and any
 -- other number is that refusal
-unfoldable pub numbered : ℕ → RingCursor → Answer
-numbered n c = cond (eqb n 0) (done (valuesOf c)) (refused n)
+unfoldable pub toldBy : ℕ → RingCursor → Answer
+toldBy n c = cond (eqb n 0) (done (valuesOf c)) (refused n)
 
 -- what a move leaves: the answer that its number tells, and the cursor
 abbrev pub outcomeOf : ℕ → RingCursor → Outcome
-outcomeOf n c = outcome (numbered n c) c
+outcomeOf n c = outcome (toldBy n c) c

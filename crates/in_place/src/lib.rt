@@ -11,21 +11,21 @@ use cursor::RingCursor;
 
 // The number of a move's answer, and the cursor that it leaves: where the move is refused, the one that came. So whoever
 // stores it back has nothing to decide.
-pub struct Moved {
+pub struct Left {
     pub number: u8,
     pub cursor: RingCursor,
 }
 
 // By n slots, by value: what there is to decide is decided here.
-fn by_value(cursor: RingCursor, size: u16, n: u16) -> Moved
+fn by_value(cursor: RingCursor, size: u16, n: u16) -> Left
     ensures { λ r. ⌜ outcomeOf (r .number) (r .cursor) ≡ advanceOf size n cursor ⌝ }
 {
     match cursor.advance_by(size, n) {
-        Advanced::To(to) => Moved {
+        Advanced::To(to) => Left {
             number: 0,
             cursor: to,
         },
-        Advanced::Refused(e, same) => Moved {
+        Advanced::Refused(e, same) => Left {
             number: e.number(),
             cursor: same,
         },
@@ -49,10 +49,10 @@ pub fn advance(cursor: &mut RingCursor, size: u16) -> u8
 }
 
 // A cursor of this function's own is moved in place: its callers hand over plain values, so their proofs have no walk.
-pub fn advanced(cursor: RingCursor, size: u16, n: u16) -> Moved
+pub fn advance_own(cursor: RingCursor, size: u16, n: u16) -> Left
     ensures { λ r. ⌜ outcomeOf (r .number) (r .cursor) ≡ advanceOf size n cursor ⌝ }
 {
     let mut c = cursor;
     let number = advance_by(&mut c, size, n);
-    Moved { number, cursor: c }
+    Left { number, cursor: c }
 }

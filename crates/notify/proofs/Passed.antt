@@ -12,6 +12,7 @@ use Rattle.cursor.specs.Cursor.{at, steps}
 use Rattle.cursor.proofs.Laws.{steps-within}
 use Rattle.event.specs.declared.EventSuppression.{EventSuppression}
 use Rattle.event.specs.Event.{DESC, flagsOf, offOf, wrapOf}
+use Rattle.notify.specs.Passed.{Passed}
 use Rattle.notify.specs.Notify.{sub16, needEvent, awaited, notifyOf}
 use Rattle.notify.proofs.Laws.{sub16-le, sub16-lt, notify-desc, notify-past}
 
@@ -40,12 +41,6 @@ by-wrap false true f g = g (λ e. clash refl e)
 
 -- ---- the theorem. It is about rings, whose size is at most 32,768: at size 65,535, from (0, true) to (65,534, true), an event at
 -- (0, false) is told of though that slot was not passed
-
--- the event's (offset, wrap) is one of the n slots from old on
-pub record Passed (e : EventSuppression) (size n : ℕ) (old : RingCursor) : Type 0 where
-  pub step : ℕ
-  pub before : step < n
-  pub there : steps size step old ≡ at (offOf e) (wrapOf e)
 
 module _
     (e : EventSuppression) (size : ℕ) (old new : RingCursor)

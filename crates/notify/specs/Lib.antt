@@ -1,1 +1,2 @@
 pub mod Notify
+pub mod Passed

@@ -23,7 +23,9 @@ needEvent off new old = ltb (sub16 (sub16 new off) 1) (sub16 new old)
 unfoldable pub awaited : EventSuppression → ℕ → RingCursor → ℕ
 awaited e size new = cond (Bool·beq (wrapOf e) (new .wrap)) (offOf e) (sub16 (offOf e) size)
 
--- "DISABLE no, ENABLE yes, 3 no, DESC with offset at or past the size no. Else .."
+-- "DISABLE no, ENABLE yes, 3 no, DESC with offset at or past the size no. Else .." It is 2.7.10's answer
+-- on batches that do not wrap (`passed-told`, `told-passed` in proofs/Passed.antt); docs/DIFFERENCES.md has where a wrapped
+-- one is answered otherwise
 unfoldable pub notifyOf : EventSuppression → ℕ → RingCursor → RingCursor → Bool
 notifyOf e size old new =
     cond (eqb (flagsOf e) DISABLE) false

@@ -27,7 +27,7 @@ use Rattle.consumer.specs.declared.Checkpoint.{Checkpoint}
 use Rattle.consumer.specs.Poll.{Taken, taken, headRefusal, headOf, pastOf, pollOf, peekOf}
 use Rattle.consumer.proofs.Poll.{poll-stopped, peek-done}
 use Rattle.consumer.proofs.Goes.{head-short, head-blocks, past-is, bytes-goes}
-use Rattle.back.proofs.Back.{Stands, poll-accepted, poll-back, head-avail}
+use Rattle.back.proofs.Back.{Stands, legible, poll-accepted, poll-back}
 use Rattle.queue.specs.History.{Item, Poll, slotsOf, items}
 use Rattle.queue.specs.History as said
 use Rattle.queue.specs.Sentences.{All}
@@ -181,7 +181,7 @@ module _ (l : Layout) (laid-out : badLayout l ≡ false) where
             (sets outs 0 (x .chain .addrs)) (sets louts 0 (x .chain .lens))
         is-taken =
             let c = c-size l laid-out ret w q k in
-            let s = stands x xs e in
+            let s = legible (w .cons .layout) (w .ring) (w .cons .avail) (x .id) (x .chain .addrs) (x .chain .lens) (x .chain .readable) (stands x xs e) in
             poll-back (w .cons) (w .ring) (x .id) (x .chain .addrs) (x .chain .lens) (x .chain .readable) s (w .heldCounts) outs louts
             (poll-accepted (w .cons) (w .ring) (x .id) (x .chain .addrs) (x .chain .lens) (x .chain .readable) s (w .heldCounts) outs louts
             (c-sound l laid-out ret w q k) (c-lent l laid-out ret w q k) (omega (arith, c)) (omega (arith, c)) (omega (arith, c, low)) unheld (omega (arith, c, fits)))
@@ -300,5 +300,5 @@ module _ (l : Layout) (laid-out : badLayout l ≡ false) where
             (inr (refl, e), (ret, like-look l laid-out ret w q k (said.peeked false) (k .promise)))
         go (x ∷ xs) e =
             good-by l q _ (said.looked (said.peeked true)) w w
-            (says-it true (head-avail (w .cons) (w .ring) (x .id) (x .chain .addrs) (x .chain .lens) (x .chain .readable) (stands x xs e))) refl
+            (says-it true (legible (w .cons .layout) (w .ring) (w .cons .avail) (x .id) (x .chain .addrs) (x .chain .lens) (x .chain .readable) (stands x xs e) .head-avail)) refl
             (inl (refl, subst (λ (ws : List Item). 0 < length ws) (sym e) (omega arith)), (ret, like-look l laid-out ret w q k (said.peeked true) (k .promise)))

@@ -15,13 +15,13 @@ use Rattle.cursor.specs.declared.RingCursor.{RingCursor}
 use Rattle.cursor.specs.Cursor.{step, steps}
 use Rattle.cursor.proofs.Laws.{step-below, steps-none, heads-apart}
 use Rattle.desc.specs.declared.Descriptor.{Descriptor}
-use Rattle.desc.specs.Flags.{NEXT, WRITE, INDIRECT, has}
+use Rattle.desc.specs.Flags.{NEXT, WRITE, INDIRECT, has, known}
 use Rattle.desc.specs.Desc.{markAvail}
 use Rattle.desc.proofs.Trips.{Ranged}
 use Rattle.desc.proofs.Flags.{avail-fits, avail-keeps}
 use Rattle.layout.specs.declared.Layout.{Layout}
 use Rattle.layout.specs.Layout.{tableBytes}
-use Rattle.ring.specs.Slots.{slotOf}
+use Rattle.ring.specs.Slots.{slotOf, slotPut}
 use Rattle.ring.proofs.Frames.{Clear, slot-length, slot-clear, slot-same, slot-other}
 use Rattle.producer.specs.Submit.{elementOf, putAvail, putTails, putChain}
 
@@ -57,6 +57,15 @@ module _ (l : Layout) (f : ℕ → Descriptor) where
   tails-clear (suc k) i c ring j m b o =
       tails-clear k (suc i) (step (l .size) c) (putAvail l c (f i) ring) j m (step-below (l .size) c (omega arith)) o
       ∙ slot-clear (l .table) c (markAvail (f i) (c .wrap)) ring j m (slot-in-table l c j m b o)
+
+  -- what each store into a slot keeps of the bytes
+  tails-hold :
+      (P : List ℕ → Type 0) → ((c : RingCursor) (d : Descriptor) (ring : List ℕ) → P ring → P (slotPut (l .table) c d ring))
+      → (k i : ℕ) (c : RingCursor) (ring : List ℕ) → P ring → P (putTails l f k i c ring .bytes)
+  unfolding putTails
+  tails-hold P h zero i c ring b = b
+  tails-hold P h (suc k) i c ring b =
+      tails-hold P h k (suc i) (step (l .size) c) (putAvail l c (f i) ring) (h c (markAvail (f i) (c .wrap)) ring b)
 
   -- slots that are none of the chain's
   pub tails-keep :
@@ -108,6 +117,12 @@ module _ (l : Layout) (f : ℕ → Descriptor) where
         slot-clear (l .table) c (markAvail (f 0) (c .wrap)) behind j m (slot-in-table l c j m b o)
         ∙ tails-clear (n - 1) 1 (step (l .size) c) ring j m (step-below (l .size) c (omega arith)) o
 
+    pub chain-hold :
+        (P : List ℕ → Type 0) → ((c : RingCursor) (d : Descriptor) (ring : List ℕ) → P ring → P (slotPut (l .table) c d ring))
+        → P ring → P (putChain l f n c ring .bytes)
+    unfolding putChain
+    chain-hold P h b = h c (markAvail (f 0) (c .wrap)) behind (tails-hold P h (n - 1) 1 (step (l .size) c) ring b)
+
     pub chain-keep :
         (s : RingCursor) → 0 < n → ((j : ℕ) → j < n → steps (l .size) j c .head ≡ s .head → ⊥)
         → slotOf (l .table) s (putChain l f n c ring .bytes) ≡ slotOf (l .table) s ring
@@ -147,6 +162,15 @@ element-ranged id addrs lens readable h a b j w =
       id = h;
       flags = avail-fits (cond (ltb (j + 1) (length addrs)) NEXT 0 + cond (ltb j readable) 0 WRITE) w;
     }
+
+-- an element's flags are of the five alone, in a word of 16 bits
+pub element-flags :
+    (id : ℕ) (addrs lens : List ℕ) (readable j : ℕ)
+    → let f = elementOf id addrs lens readable j .flags in (known f ≡ f) × (f < 65536)
+unfolding elementOf
+element-flags id addrs lens readable j =
+    each-way (λ (a b : Bool). let f = cond a NEXT 0 + cond b 0 WRITE in (known f ≡ f) × (f < 65536))
+    (refl, omega arith) (refl, omega arith) (refl, omega arith) (refl, omega arith) (ltb (j + 1) (length addrs)) (ltb j readable)
 
 -- what an element says of itself
 pub record Says (given : ℕ) (addrs lens : List ℕ) (readable j : ℕ) (d : Descriptor) : Type 0 where

@@ -23,7 +23,7 @@ use Rattle.producer.specs.declared.RingProducer.{RingProducer}
 use Rattle.producer.specs.Record.{badRecord, badLent, bytesRefusal}
 use Rattle.producer.specs.Outcome.{Outcome, outcome}
 use Rattle.producer.specs.Submit.{topOf, submitRefusal, takenOf, submittedOf, Written}
-use Rattle.producer.specs.Tell.{tellOf}
+use Rattle.producer.specs.Tell.{valued, tellOf}
 use Rattle.producer.specs.Poll.{pollRefusal, freedOf, polledOf, nextRefusal}
 use Rattle.producer.specs.Notices.{sinceRefusal, shadowOf}
 use Rattle.producer.specs.Fresh.{freshOf}
@@ -150,6 +150,10 @@ module _ (old : RingCursor) (o : Outcome) where
   pub tell-value : getD (tellOf old o .answer .values) 0 0 ≡ getD (o .answer .values) 0 0
   unfolding tellOf
   tell-value = split (eqb (o .answer .number) 0) (λ t. simp t) (λ f. simp f)
+
+  pub tell-answer : tellOf old o .answer ≡ valued old o
+  unfolding tellOf
+  tell-answer = refl
 
   pub tell-leaves : tellOf old o ≡ outcome (tellOf old o .answer) (o .end) (o .ring) (o .ids) (o .counts)
   unfolding tellOf

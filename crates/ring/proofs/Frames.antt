@@ -23,7 +23,8 @@ use Rattle.event.specs.declared.EventSuppression.{EventSuppression}
 use Rattle.event.specs.Event as events
 use Rattle.event.proofs.Trips as eventTrips
 use Rattle.ring.specs.Slots.{placeOf, slotOf, slotPut}
-use Rattle.ring.specs.Events.{eventAt, eventPut, turned, armed}
+use Rattle.notify.specs.Notify.{notifyOf}
+use Rattle.ring.specs.Events.{eventAt, eventPut, turned, armed, told}
 
 -- m bytes from j lie behind n bytes from i, or before them
 abbrev pub Clear : ℕ → ℕ → ℕ → ℕ → Type 0
@@ -45,6 +46,16 @@ module _ (l : List ℕ) (i : ℕ) (bs : List ℕ) where
       (λ h. ap (λ (x : Outcome). getOf (x .bytes) j m) (put-fits l i bs h) ∙ get-other bs l i m j o)
 
 -- ---- a slot
+
+-- the slot is what its sixteen bytes decode to, and putting a descriptor there is storing what it encodes to
+pub slot-decoded : (table : ℕ) (c : RingCursor) (ring : List ℕ) → slotOf table c ring ≡ decodeOf (getOf ring (placeOf table c) 16)
+unfolding slotOf
+slot-decoded table c ring = refl
+
+pub slot-stored :
+    (table : ℕ) (c : RingCursor) (d : Descriptor) (ring : List ℕ) → slotPut table c d ring ≡ putOf ring (placeOf table c) (encodeOf d) .bytes
+unfolding slotPut
+slot-stored table c d ring = refl
 
 -- a slot is told by its sixteen bytes
 pub slot-by-bytes :
@@ -131,6 +142,12 @@ module _ (at : ℕ) (ring : List ℕ) where
   pub armed-alone : (off : ℕ) (wrap : Bool) → EventAlone (armed at off wrap ring)
   unfolding armed
   armed-alone off wrap = event-alone (events.setFlags (events.setDescEvent (eventAt at ring) off wrap) events.DESC)
+
+-- what an event area asks is told by its four bytes
+pub told-by-bytes :
+    (at size : ℕ) (old new : RingCursor) (l m : List ℕ) → getOf l at 4 ≡ getOf m at 4 → told at size old new l ≡ told at size old new m
+unfolding told
+told-by-bytes at size old new l m e = ap (λ (bs : List ℕ). notifyOf (events.decodeOf bs) size old new) e
 
 -- ---- entries of a table, or of an output
 

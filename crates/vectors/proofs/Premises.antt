@@ -27,7 +27,8 @@ use Rattle.layout.proofs.Laws.{Laid, laid, Within, within}
 use Rattle.chain.specs.Chain.{badChain}
 use Rattle.chain.proofs.Laws.{Good, good}
 use Rattle.notify.specs.Notify.{notifyOf}
-use Rattle.notify.proofs.Passed.{Passed, passed-told, told-passed}
+use Rattle.notify.specs.Passed.{Passed}
+use Rattle.notify.proofs.Passed.{passed-told, told-passed}
 use Rattle.virtio.specs.Packed.{image, pvirtq-event-suppress, SameOthers}
 use Rattle.virtio.proofs.Descriptor as document
 use Rattle.virtio.proofs.Event as area-of

@@ -2,3 +2,4 @@ pub mod Bytes
 pub mod Descriptor
 pub mod Event
 pub mod Rounds
+pub mod Positions

@@ -13,7 +13,7 @@ use Rattle.desc.specs.Flags.{NEXT, WRITE, INDIRECT, AVAIL, USED, has, known, ot
 use Rattle.desc.specs.Desc.{markAvail, markUsed}
 use Rattle.desc.proofs.Flags.{avail-bits, used-bits, avail-fits, used-fits, avail-others, used-others, others-low, others-high}
 use Rattle.base.proofs.Tests.{by-lt}
-use Rattle.virtio.specs.Packed.{bitAt, NEXT-BIT, WRITE-BIT, INDIRECT-BIT, AVAIL-BIT, USED-BIT, Available, Used, SameOthers}
+use Rattle.virtio.specs.Packed.{bitAt, NEXT-BIT, WRITE-BIT, INDIRECT-BIT, AVAIL-BIT, USED-BIT, Available, Used, Reserved, SameOthers}
 
 -- the flags by their numbers are the document's bits
 pub record SameBits (f : ℕ) : Type 0 where
@@ -193,15 +193,8 @@ known-five f h =
     low15 : (x : ℕ) → x < 65536 → x / 2 ^ 15 % 2 ≡ x / 32768
     low15 x h = omega arith
 
--- a bit that is none of the five
-pub record Other (k : ℕ) : Type 0 where
-  pub next : k ≡ NEXT-BIT → ⊥
-  pub write : k ≡ WRITE-BIT → ⊥
-  pub indirect : k ≡ INDIRECT-BIT → ⊥
-  pub avail : k ≡ AVAIL-BIT → ⊥
-  pub used : k ≡ USED-BIT → ⊥
-
-none-set : (r a u : ℕ) → r < 8 → a < 2 → u < 2 → (k : ℕ) → k < 16 → Other k → (r + a * 128 + u * 32768) / 2 ^ k % 2 ≡ 0
+-- no reserved bit is among the five
+none-set : (r a u : ℕ) → r < 8 → a < 2 → u < 2 → (k : ℕ) → k < 16 → Reserved k → (r + a * 128 + u * 32768) / 2 ^ k % 2 ≡ 0
 none-set r a u lr la lu zero l o = absurd (o .next refl)
 none-set r a u lr la lu (suc zero) l o = absurd (o .write refl)
 none-set r a u lr la lu (suc (suc zero)) l o = absurd (o .indirect refl)
@@ -220,7 +213,7 @@ none-set r a u lr la lu (suc (suc (suc (suc (suc (suc (suc (suc (suc (suc (suc (
 none-set r a u lr la lu (suc (suc (suc (suc (suc (suc (suc (suc (suc (suc (suc (suc (suc (suc (suc zero))))))))))))))) l o = absurd (o .used refl)
 none-set r a u lr la lu (suc (suc (suc (suc (suc (suc (suc (suc (suc (suc (suc (suc (suc (suc (suc (suc (k))))))))))))))))) l o = absurd (omega arith)
 
-pub known-others : (f k : ℕ) → f < 65536 → Other k → bitAt k (known f) ≡ false
+pub known-others : (f k : ℕ) → f < 65536 → Reserved k → bitAt k (known f) ≡ false
 known-others f k h o =
     let lu : f / USED < 2 = omega arith in
     by-lt k 16

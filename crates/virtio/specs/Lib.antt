@@ -1,1 +1,3 @@
 pub mod Packed
+pub mod Chains
+pub mod Suppression

@@ -1,5 +1,5 @@
 -- The packed virtqueue as VIRTIO 1.1 has it, in the document's own order of fields, sections named. Nothing here knows the
--- ring's definitions: the theorems of this crate say that those are these.
+-- ring's definitions; the theorems of this crate say that the ring's definitions agree with these.
 use Prim.Native.Nat.{ℕ, zero, suc, _+_, _*_, _/_, _%_, _^_, _<_}
 use mathlib.Core.Path.{_≡_}
 use mathlib.Core.List.{List, [], _∷_, _++_}
@@ -75,6 +75,14 @@ AVAIL-BIT = 7
 
 abbrev pub USED-BIT : ℕ
 USED-BIT = 15
+
+-- 2.7: every other bit is reserved, written 0 and ignored when read
+pub record Reserved (k : ℕ) : Type 0 where
+  pub next : k ≡ NEXT-BIT → ⊥
+  pub write : k ≡ WRITE-BIT → ⊥
+  pub indirect : k ≡ INDIRECT-BIT → ⊥
+  pub avail : k ≡ AVAIL-BIT → ⊥
+  pub used : k ≡ USED-BIT → ⊥
 
 -- 2.7.1: available in the driver's round w, AVAIL equals w and USED is the inverse of w
 pub record Available (flags : ℕ) (w : Bool) : Type 0 where

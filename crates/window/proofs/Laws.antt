@@ -13,24 +13,24 @@ use Rattle.base.proofs.Tests.{by-lt}
 use Rattle.desc.specs.Desc.{descriptor, decodeOf}
 use Rattle.window.specs.declared.Slot.{Slot}
 use Rattle.window.specs.declared.Slot.the-variants.{Holds, Nothing}
-use Rattle.window.specs.Window.{answerOf, slotOf}
+use Rattle.window.specs.Window.{answerOf, shownOf}
 
-module _ (table : List ℕ) (size i : ℕ) where
+module _ (bytes : List ℕ) (size i : ℕ) where
   pub shown :
-      i < size → i * 16 + 16 ≤ length table
-      → slotOf table size i ≡ answerOf (Holds (decodeOf (getOf table (i * 16) 16)))
-  unfolding slotOf
-  shown h w = simp (lt-ltb i size h, le-leb (i * 16 + 16) (length table) w)
+      i < size → i * 16 + 16 ≤ length bytes
+      → shownOf bytes size i ≡ answerOf (Holds (decodeOf (getOf bytes (i * 16) 16)))
+  unfolding shownOf
+  shown h w = simp (lt-ltb i size h, le-leb (i * 16 + 16) (length bytes) w)
 
   -- i is not below the size
-  pub past : size ≤ i → slotOf table size i ≡ answerOf Nothing
-  unfolding slotOf
+  pub past : size ≤ i → shownOf bytes size i ≡ answerOf Nothing
+  unfolding shownOf
   past h = simp (le-ltb i size h)
 
   -- the slot is not whole in the bytes
-  pub cut : length table < i * 16 + 16 → slotOf table size i ≡ answerOf Nothing
-  unfolding slotOf
-  cut w = by-lt i size (λ h. simp (lt-ltb i size h, lt-leb (i * 16 + 16) (length table) w)) (λ h. simp (le-ltb i size h))
+  pub cut : length bytes < i * 16 + 16 → shownOf bytes size i ≡ answerOf Nothing
+  unfolding shownOf
+  cut w = by-lt i size (λ h. simp (lt-ltb i size h, lt-leb (i * 16 + 16) (length bytes) w)) (λ h. simp (le-ltb i size h))
 
 -- the part of a region from a byte on, and none of it past its end
 pub part-behind : (ring : List ℕ) (from : ℕ) → take (length ring - from) (drop from ring) ≡ drop from ring

@@ -22,15 +22,18 @@ use Rattle.desc.specs.declared.Descriptor.{Descriptor}
 use Rattle.desc.specs.Desc.{descriptor, encodeOf, decodeOf}
 use Rattle.desc.proofs.Trips.{Ranged}
 use Rattle.ring.specs.Slots as ends
-use Rattle.ring.proofs.Frames.{slot-length, slot-same}
+use Rattle.ring.proofs.Frames.{slot-decoded, slot-stored, slot-length, slot-same}
 use Rattle.window.specs.declared.Slot.{Slot}
 use Rattle.window.specs.declared.Slot.the-variants.{Holds, Nothing}
-use Rattle.window.specs.Window.{answerOf, slotOf}
+use Rattle.window.specs.declared.Window.{Window}
+use Rattle.window.specs.Window.{window, answerOf, shownOf}
 use Rattle.window.proofs.Laws.{shown, past, cut, answer-same}
 use Rattle.desc.proofs.load as loads
 use Rattle.desc.proofs.load.Reads as load
 use Rattle.desc.proofs.Descriptor.decode as decodes
 use Rattle.desc.proofs.Descriptor.decode.Reads as decode
+use Rattle.window.proofs.Contracts.{SlotPost}
+use Rattle.window.proofs.Window.slot as slot
 use Rattle.window.proofs.slot_at as at
 use Rattle.window.proofs.slot_at.Reads as slot-at
 
@@ -41,7 +44,7 @@ module _ (ring : List ℕ) (table size : ℕ) where
   -- "gives slot i": below the size and whole in the bytes, what is shown is load and decode of the slot
   pub load-and-decode :
       (i : ℕ) → i < size → table + i * 16 + 16 ≤ length ring
-      → slotOf (drop table ring) size i ≡ holding (decodeOf (getOf ring (table + i * 16) 16))
+      → shownOf (drop table ring) size i ≡ holding (decodeOf (getOf ring (table + i * 16) 16))
   load-and-decode i h w =
       let n = length-drop table ring in
       shown (drop table ring) size i h (omega arith)
@@ -53,24 +56,31 @@ module _ (ring : List ℕ) (table size : ℕ) where
   -- and so what both ends look at with a cursor on that slot
   pub as-the-ends-look :
       (c : RingCursor) → c .head < size → ends.placeOf table c + 16 ≤ length ring
-      → slotOf (drop table ring) size (c .head) ≡ holding (ends.slotOf table c ring)
-  unfolding ends.slotOf
-  as-the-ends-look c h w = load-and-decode (c .head) h w
+      → shownOf (drop table ring) size (c .head) ≡ holding (ends.slotOf table c ring)
+  as-the-ends-look c h w = load-and-decode (c .head) h w ∙ ap holding (sym (slot-decoded table c ring))
 
   -- "or nothing where i is not below the size or the slot is not whole in the bytes": then, and only then
   pub nothing-then :
-      (i : ℕ) → (size ≤ i) ⊎ (length ring < table + i * 16 + 16) → slotOf (drop table ring) size i ≡ answerOf Nothing
+      (i : ℕ) → (size ≤ i) ⊎ (length ring < table + i * 16 + 16) → shownOf (drop table ring) size i ≡ answerOf Nothing
   nothing-then i o =
       ⊎-elim (λ h. past (drop table ring) size i h)
       (λ w. cut (drop table ring) size i (omega (arith, length-drop table ring))) o
 
   pub only-then :
-      (i : ℕ) → slotOf (drop table ring) size i ≡ answerOf Nothing → (size ≤ i) ⊎ (length ring < table + i * 16 + 16)
+      (i : ℕ) → shownOf (drop table ring) size i ≡ answerOf Nothing → (size ≤ i) ⊎ (length ring < table + i * 16 + 16)
   only-then i e =
       by-lt i size
       (λ h. by-lt (length ring) (table + i * 16 + 16) (λ w. inr w)
       (λ w. absurd (omega (arith, ap (λ (a : Answer). getD (a .values) 0 0) (sym (load-and-decode i h w) ∙ e)))))
       (λ h. inl h)
+
+  -- so where a slot shows nothing, no later one shows anything
+  pub nothing-behind :
+      (i j : ℕ) → i ≤ j → shownOf (drop table ring) size i ≡ answerOf Nothing → shownOf (drop table ring) size j ≡ answerOf Nothing
+  nothing-behind i j l e = nothing-then j (⊎-elim (λ h. inl (omega arith)) (λ h. inr (omega arith)) (only-then i e))
+
+held : (x : Slot) (bs b : List ℕ) (d : Descriptor) → answerOf x ≡ holding (decodeOf bs) → b ≡ bs → d ≡ decodeOf b → x ≡ Holds d
+held x bs b d px pb pd = answer-same x (Holds d) (px ∙ ap holding (ap decodeOf (sym pb) ∙ sym pd))
 
 -- the same of the functions' own contracts: whatever `slot_at`, `desc::load` and `Descriptor::decode` may answer by them, what `slot_at` answers
 -- holds what the other two make of the slot
@@ -81,13 +91,22 @@ pub by-contract :
     → (d : Descriptor) (sd : AtExit decodes.ended tt) → decode.Post tt (b, tt) d sd
     → x ≡ Holds d
 by-contract κ ring table size i h w x sx px b sb pb d sd pd =
-    answer-same x (Holds d)
-    (px ∙ load-and-decode (now ring) table size i h w ∙ ap holding (ap decodeOf (sym pb) ∙ sym pd))
+    held x (getOf (now ring) (table + i * 16) 16) b d (px ∙ load-and-decode (now ring) table size i h w) pb pd
+
+-- and whatever `Window::slot` may answer of a window
+pub slot-by-contract :
+    (κ : Lfts 1) (v : Window) (i : ℕ) → i < v .size → i * 16 + 16 ≤ length (now (v .table))
+    → (x : Slot) (sx : AtExit slot.ended κ) → SlotPost κ (v, (i, tt)) x sx
+    → (b : List ℕ) (sb : AtExit loads.ended κ) → load.Post κ (v .table, (i * 16, tt)) b sb
+    → (d : Descriptor) (sd : AtExit decodes.ended tt) → decode.Post tt (b, tt) d sd
+    → x ≡ Holds d
+slot-by-contract κ v i h w x sx px b sb pb d sd pd =
+    held x (getOf (now (v .table)) (i * 16) 16) b d (px ∙ shown (now (v .table)) (v .size) i h w) pb pd
 
 -- what an end wrote into a slot is what a window shows
 pub as-the-ends-write :
     (ring : List ℕ) (table size : ℕ) (c : RingCursor) (d : Descriptor) → Ranged d → c .head < size → ends.placeOf table c + 16 ≤ length ring
-    → slotOf (drop table (ends.slotPut table c d ring)) size (c .head) ≡ holding d
+    → shownOf (drop table (ends.slotPut table c d ring)) size (c .head) ≡ holding d
 as-the-ends-write ring table size c d r h w =
     as-the-ends-look (ends.slotPut table c d ring) table size c h (omega (arith, slot-length table c d ring))
     ∙ ap holding (slot-same table c d ring w r)
@@ -95,9 +114,10 @@ as-the-ends-write ring table size c d r h w =
 -- the same of the sixteen bytes that `desc::store` puts there
 pub as-stored :
     (ring : List ℕ) (table size i : ℕ) (d : Descriptor) → Ranged d → i < size → table + i * 16 + 16 ≤ length ring
-    → slotOf (drop table (putOf ring (table + i * 16) (encodeOf d) .bytes)) size i ≡ holding d
-unfolding ends.slotPut
-as-stored ring table size i d r h w = as-the-ends-write ring table size (cursor.at i true) d r h w
+    → shownOf (drop table (putOf ring (table + i * 16) (encodeOf d) .bytes)) size i ≡ holding d
+as-stored ring table size i d r h w =
+    let c = cursor.at i true in
+    ap (λ (l : List ℕ). shownOf (drop table l) size i) (sym (slot-stored table c d ring)) ∙ as-the-ends-write ring table size c d r h w
 
 -- ---- values that meet the premises: the slot D1 of document 01, in the second slot of a table of two at byte 16 of 48
 
@@ -115,10 +135,10 @@ whole : 16 + 1 * 16 + 16 ≤ length zeros
 unfolding zeros
 whole = omega (arith, length-replicate {A = ℕ} 48 0)
 
-looked : slotOf (drop 16 zeros) 2 1 ≡ holding (decodeOf (getOf zeros (16 + 1 * 16) 16))
+looked : shownOf (drop 16 zeros) 2 1 ≡ holding (decodeOf (getOf zeros (16 + 1 * 16) 16))
 looked = load-and-decode zeros 16 2 1 (omega arith) whole
 
-looked-alike : slotOf (drop 16 zeros) 2 1 ≡ holding (ends.slotOf 16 (cursor.at 1 true) zeros)
+looked-alike : shownOf (drop 16 zeros) 2 1 ≡ holding (ends.slotOf 16 (cursor.at 1 true) zeros)
 looked-alike = as-the-ends-look zeros 16 2 (cursor.at 1 true) (omega arith) whole
 
 abbrev lent : RefT (List ℕ)
@@ -127,6 +147,14 @@ lent = record { ptr = (0, 0); name = 0; now = zeros }
 abbrev zero : Descriptor
 zero = decodeOf (getOf zeros (16 + 1 * 16) 16)
 
+-- the same slot of the window whose table is the region itself
+abbrev first : Descriptor
+first = decodeOf (getOf zeros (1 * 16) 16)
+
+first-whole : 1 * 16 + 16 ≤ length zeros
+unfolding zeros
+first-whole = omega (arith, length-replicate {A = ℕ} 48 0)
+
 answered : Holds zero ≡ Holds zero
 answered =
     by-contract ([], tt) lent 16 2 1 (omega arith) whole
@@ -134,19 +162,29 @@ answered =
     (getOf zeros (16 + 1 * 16) 16) (lent, (16 + 1 * 16, tt)) refl
     zero (getOf zeros (16 + 1 * 16) 16, tt) refl
 
-stored : slotOf (drop 16 (putOf zeros (16 + 1 * 16) (encodeOf d1) .bytes)) 2 1 ≡ holding d1
+answered-slot : Holds first ≡ Holds first
+answered-slot =
+    slot-by-contract ([], tt) (window lent 2) 1 (omega arith) first-whole
+    (Holds first) (window lent 2, (1, tt)) (sym (shown zeros 2 1 (omega arith) first-whole))
+    (getOf zeros (1 * 16) 16) (lent, (1 * 16, tt)) refl
+    first (getOf zeros (1 * 16) 16, tt) refl
+
+stored : shownOf (drop 16 (putOf zeros (16 + 1 * 16) (encodeOf d1) .bytes)) 2 1 ≡ holding d1
 stored = as-stored zeros 16 2 1 d1 ranged (omega arith) whole
 
-written : slotOf (drop 16 (ends.slotPut 16 (cursor.at 1 true) d1 zeros)) 2 1 ≡ holding d1
+written : shownOf (drop 16 (ends.slotPut 16 (cursor.at 1 true) d1 zeros)) 2 1 ≡ holding d1
 written = as-the-ends-write zeros 16 2 (cursor.at 1 true) d1 ranged (omega arith) whole
 
 -- slot 2 is not below the size, and a third slot would end past the bytes
-none : slotOf (drop 16 zeros) 2 2 ≡ answerOf Nothing
+none : shownOf (drop 16 zeros) 2 2 ≡ answerOf Nothing
 none = nothing-then zeros 16 2 2 (inl (omega arith))
 
-short : slotOf (drop 16 zeros) 3 2 ≡ answerOf Nothing
+short : shownOf (drop 16 zeros) 3 2 ≡ answerOf Nothing
 unfolding zeros
 short = nothing-then zeros 16 3 2 (inr (omega (arith, length-replicate {A = ℕ} 48 0)))
+
+none-behind : shownOf (drop 16 zeros) 2 7 ≡ answerOf Nothing
+none-behind = nothing-behind zeros 16 2 2 7 (omega arith) none
 
 why : (3 ≤ 2) ⊎ (length zeros < 16 + 2 * 16 + 16)
 why = only-then zeros 16 3 2 short

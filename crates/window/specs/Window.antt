@@ -23,8 +23,8 @@ answerOf Nothing = done (0 ∷ [])
 
 -- "gives slot i, or nothing where i is not below the size or the slot is not whole in the bytes"; the table's first byte
 -- is the first of the bytes
-unfoldable pub slotOf : List ℕ → ℕ → ℕ → Answer
-slotOf table size i =
-    cond (ltb i size && leb (i * 16 + 16) (length table))
-    (answerOf (Holds (decodeOf (getOf table (i * 16) 16))))
+unfoldable pub shownOf : List ℕ → ℕ → ℕ → Answer
+shownOf bytes size i =
+    cond (ltb i size && leb (i * 16 + 16) (length bytes))
+    (answerOf (Holds (decodeOf (getOf bytes (i * 16) 16))))
     (answerOf Nothing)

@@ -2,7 +2,7 @@
 // writes nothing and takes no part in the ring.
 ghost use mathlib.Core.Path.{_≡_};
 ghost use lib.ListN.{drop};
-ghost use Rattle.window.specs.Window.{window, answerOf, slotOf};
+ghost use Rattle.window.specs.Window.{window, answerOf, shownOf};
 use base::pick;
 use desc::Descriptor;
 
@@ -20,7 +20,7 @@ pub enum Slot {
 
 // The work, on a plain slice: a function over a Window is proved by a walk of its code, so every branch stands here.
 fn decoded(table: &[u8], size: u16, i: u16) -> Slot
-    ensures { λ r. ⌜ answerOf r ≡ slotOf (now (table .entry)) size i ⌝ }
+    ensures { λ r. ⌜ answerOf r ≡ shownOf (now (table .entry)) size i ⌝ }
 {
     let at = (i as usize) * 16;
     if size <= i {
@@ -41,7 +41,7 @@ impl<'a> Window<'a> {
 
     // "a thin function decodes slot i"
     pub fn slot(self, i: u16) -> Slot
-        ensures { λ r. ⌜ answerOf r ≡ slotOf (now (self .entry .table)) (self .entry .size) i ⌝ }
+        ensures { λ r. ⌜ answerOf r ≡ shownOf (now (self .entry .table)) (self .entry .size) i ⌝ }
     {
         decoded(self.table, self.size, i)
     }
@@ -49,14 +49,14 @@ impl<'a> Window<'a> {
 
 // For every caller that keeps no window: its parameters are a plain slice and numbers, so a caller of it needs no walk.
 pub fn slot_of(table: &[u8], size: u16, i: u16) -> Slot
-    ensures { λ r. ⌜ answerOf r ≡ slotOf (now (table .entry)) size i ⌝ }
+    ensures { λ r. ⌜ answerOf r ≡ shownOf (now (table .entry)) size i ⌝ }
 {
     Window::new(table, size).slot(i)
 }
 
 // The same of a table that begins at a byte of a larger region; one that begins past the region's end has no bytes.
 pub fn slot_at(ring: &[u8], table: usize, size: u16, i: u16) -> Slot
-    ensures { λ r. ⌜ answerOf r ≡ slotOf (drop table (now (ring .entry))) size i ⌝ }
+    ensures { λ r. ⌜ answerOf r ≡ shownOf (drop table (now (ring .entry))) size i ⌝ }
 {
     if table <= ring.len() {
         return slot_of(&ring[table..], size, i);

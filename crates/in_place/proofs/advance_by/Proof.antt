@@ -44,10 +44,10 @@ use Rattle.cursor.specs.declared.RingCursor.{RingCursor}
 use Rattle.cursor.specs.Cursor.{advanceOf}
 use Rattle.cursor.proofs.RingCursor as T
 use Rattle.cursor.proofs.RingCursor.Laws as T′
-use Rattle.in_place.specs.declared.Moved.{Moved}
+use Rattle.in_place.specs.declared.Left.{Left}
 use Rattle.in_place.specs.InPlace.{outcomeOf}
-use Rattle.in_place.proofs.Moved as P
-use Rattle.in_place.proofs.Moved.Laws as P′
+use Rattle.in_place.proofs.Left as P
+use Rattle.in_place.proofs.Left.Laws as P′
 use Rattle.in_place.proofs.Closed.{closed}
 use Rattle.in_place.proofs.by_value as by-value
 use Rattle.in_place.proofs.by_value.Symbol as by-value-def
@@ -66,9 +66,9 @@ module _ {M : Type 1} (𝓤 : URA M) (H : Heap 𝓤) (A : Atoms 𝓤) (mem : Mem
   abbrev ByValue : Contract 𝓤
   ByValue = tripleOf 𝓤 H A by-value.signature (by-value.spec 𝓤 H A mem run)
 
-  moved-of : (h : RingCursor) (s n : ℕ) (r : Moved)
+  left-of : (h : RingCursor) (s n : ℕ) (r : Left)
       → ent 𝓤 (ensured 𝓤 H A by-value.ended (by-value.clauses 𝓤 H A mem run) tt (h, (s, (n, tt))) tt r) (fact 𝓤 (outcomeOf (r .number) (r .cursor) ≡ advanceOf s n h))
-  moved-of h s n r = exE 𝓤 _ (λ ws. snd∗ 𝓤 (sem 𝓤 H A (lasts by-value.ended tt (h, (s, (n, tt))) ws)) (fact 𝓤 (outcomeOf (r .number) (r .cursor) ≡ advanceOf s n h)))
+  left-of h s n r = exE 𝓤 _ (λ ws. snd∗ 𝓤 (sem 𝓤 H A (lasts by-value.ended tt (h, (s, (n, tt))) ws)) (fact 𝓤 (outcomeOf (r .number) (r .cursor) ≡ advanceOf s n h)))
 
 module _ {M : Type 1} (𝓤 : URA M) (H : Heap 𝓤) (A : Atoms 𝓤) (W : Given 𝓤 H A) (at-mem : Memory → SProp 𝓤) (run : Routine → Fun 𝓤) (κ : Lft) (q : Share) (b o : ℕ) (γ : GName) (h : RingCursor) (s n : ℕ) (s-fits : s < 2 ^ 16) (n-fits : n < 2 ^ 16) where
   abbrev Arg : Type 0
@@ -92,11 +92,11 @@ module _ {M : Type 1} (𝓤 : URA M) (H : Heap 𝓤) (A : Atoms 𝓤) (W : Given
       nothing ! $ owned ! u16 (Is u16) (uint-makes 𝓤 H A W w16) n _ (refl, n-fits) $ fjoin ! $ owned ! u16 (Is u16) (uint-makes 𝓤 H A W w16) s _ (refl, s-fits) $ fjoin ! $ move ! (1 ∷ 0 ∷ []) $ fjoin ! $
       owned ! u8 (Is u8) (uint-makes 𝓤 H A W w8) m _ (refl, low) $ move ! (1 ∷ 0 ∷ []) $ done !
 
-  -- what whoever holds a Moved knows of its fields
-  fits : (r : Moved) (w : Val) → Is P.the-row r (w ∷ []) → r .number < 2 ^ 8
+  -- what whoever holds a `Left` knows of its fields
+  fits : (r : Left) (w : Val) → Is P.the-row r (w ∷ []) → r .number < 2 ^ 8
   fits r w is = LL.owed P.the-type P′.the-laws r _ is .0 .1
 
-  now-is : (r : Moved) (w : Val) → Is P.the-row r (w ∷ []) → Is T.the-row (r .cursor) (T′.lowered (r .cursor) ∷ [])
+  now-is : (r : Left) (w : Val) → Is P.the-row r (w ∷ []) → Is T.the-row (r .cursor) (T′.lowered (r .cursor) ∷ [])
   now-is r w is = LL.owed P.the-type P′.the-laws r _ is .1 .0
 
   -- what `by_value`'s triple binds outside, and that the caller has what it asks
@@ -122,11 +122,11 @@ module _ {M : Type 1} (𝓤 : URA M) (H : Heap 𝓤) (A : Atoms 𝓤) (W : Given
         assigns ! (of-opd ! (load ! (from ! (hop ! (look ! 15 refl) (stop !))) (look-raw ! 0 refl))) (from ! (stop !)) (init ! 7 refl (LL.lawful T.the-type T′.the-laws 𝓤 H A W .typed h _ was .0)) $
         move ! (1 ∷ []) $ use1 W (raw (ByValue 𝓤 H A at-mem run .pre to-by-value)) goes $
         calls-at ! fm (ByValue 𝓤 H A at-mem run) known to-by-value (and-then ! (load ! (from ! (stop !)) (look ! 7 refl)) (and-then ! (load ! (from ! (stop !)) (look ! 13 refl)) (and-then ! (load ! (from ! (stop !)) (look ! 11 refl)) (no-more !)))) (λ w.
-        use1 W (later (some (λ (r : Moved). (‵ ftrue ⊛ ‵ (P.the-row .own r (w ∷ []))) ⊛ raw (ensured 𝓤 H A by-value.ended (by-value.clauses 𝓤 H A at-mem run) tt (h, (s, (n, tt))) tt r)))) (id⊢ 𝓤 _) $ await ! tt $ pick ! (λ r.
-        split ! $ move ! (1 ∷ []) $ use1 W (raw (fact 𝓤 (outcomeOf (r .number) (r .cursor) ≡ advanceOf s n h))) (moved-of 𝓤 H A at-mem run h s n r) $ heard ! (outcomeOf (r .number) (r .cursor) ≡ advanceOf s n h) (λ e. split ! $ drop ! $
+        use1 W (later (some (λ (r : Left). (‵ ftrue ⊛ ‵ (P.the-row .own r (w ∷ []))) ⊛ raw (ensured 𝓤 H A by-value.ended (by-value.clauses 𝓤 H A at-mem run) tt (h, (s, (n, tt))) tt r)))) (id⊢ 𝓤 _) $ await ! tt $ pick ! (λ r.
+        split ! $ move ! (1 ∷ []) $ use1 W (raw (fact 𝓤 (outcomeOf (r .number) (r .cursor) ≡ advanceOf s n h))) (left-of 𝓤 H A at-mem run h s n r) $ heard ! (outcomeOf (r .number) (r .cursor) ≡ advanceOf s n h) (λ e. split ! $ drop ! $
         peeks ! P.the-row (Is P.the-row) (shows 𝓤 H A P.the-row) r (w ∷ []) (λ is.
         land ! (from ! (stop !)) (init ! 9 refl (LL.lawful P.the-type P′.the-laws 𝓤 H A W .typed r _ is .0)) $ rewrite ! 9 (λ (u : Val). ‵ (fat fullShare P′.mir l₄ 0 u)) (ap only (LL.tells P.the-type P′.the-laws r _ is)) refl $
-        -- [what a Moved owns; the cursor's cell; the open borrow; obs; auth; true; what size and n own; _5; …; _4; …; _3; …; _2; …; _1; …; room for _0; …]
+        -- [what a `Left` owns; the cursor's cell; the open borrow; obs; auth; true; what size and n own; _5; …; _4; …; _3; …; _2; …; _1; …; room for _0; …]
         assigns ! (of-opd ! (load ! (from ! (fld ! refl (stop !))) (look-in ! 9 (sub ! 1 refl (whole !))))) (from ! (hop ! (look ! 15 refl) (stop !))) (store-raw ! 1 refl (LL.lawful T.the-type T′.the-laws 𝓤 H A W .typed (r .cursor) _ (now-is r w is) .0)) $
         assigns ! (of-opd ! (load ! (from ! (fld ! refl (stop !))) (look-in ! 9 (sub ! 0 refl (whole !))))) (from ! (stop !)) (init ! 17 refl (tt, record { fits = fits r w is })) $
         drop ! $ owned ! T.the-row (Is T.the-row) (LL.makes T.the-type T′.the-plain 𝓤 H A) (r .cursor) _ (now-is r w is) $ move ! (1 ∷ 0 ∷ []) $ closes ! tt T.the-row (r .cursor) (T′.lowered (r .cursor) ∷ []) b o $

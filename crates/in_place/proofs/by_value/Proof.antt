@@ -9,7 +9,7 @@ use Rattle.base.proofs.Refusals.{number-low}
 use Rattle.cursor.specs.declared.Advanced.{Advanced}
 use Rattle.cursor.specs.Cursor.{outcome, answerOf, cursorOf}
 use Rattle.in_place.specs.InPlace.{outcomeOf}
-use Rattle.in_place.proofs.Laws.{numbered-done, numbered-refused}
+use Rattle.in_place.proofs.Laws.{told-by-done, told-by-refused}
 use Rattle.in_place.proofs.by_value.Statement.{statement}
 use Rattle.in_place.proofs.by_value.Tie as tie
 
@@ -28,7 +28,7 @@ number-requires c κs = search needs
 returns : tie.Need-returns
 returns c =
     let g = c .before .to .given in
-    ap (λ (a : Answer). outcome a (g .0 .0)) (numbered-done (g .0 .0))
+    ap (λ (a : Answer). outcome a (g .0 .0)) (told-by-done (g .0 .0))
     ∙ ap (λ (x : Advanced). outcome (answerOf x) (cursorOf x)) (sym (g .1))
     ∙ c .before .before .before .advance-by .ensures
 
@@ -37,7 +37,7 @@ returns-2 c =
     let g = c .before .before .e .given in
     let d = g .0 .1 .0 in
     ap (λ (n : ℕ). outcomeOf n d) (c .number .ensures)
-    ∙ ap (λ (a : Answer). outcome a d) (numbered-refused (numberOf (g .0 .0)) d (number-low (g .0 .0)))
+    ∙ ap (λ (a : Answer). outcome a d) (told-by-refused (numberOf (g .0 .0)) d (number-low (g .0 .0)))
     ∙ ap (λ (x : Advanced). outcome (answerOf x) (cursorOf x)) (sym (g .1))
     ∙ c .before .before .before .before .advance-by .ensures
 

@@ -5,7 +5,7 @@ use borrow.Author.Needs.{needs}
 use Prim.Native.Nat.{ℕ}
 use mathlib.Core.Path.{ap, _∙_}
 use mathlib.Core.List.{List}
-use Rattle.window.specs.Window.{slotOf}
+use Rattle.window.specs.Window.{shownOf}
 use Rattle.window.proofs.Laws.{part-behind, part-none}
 use Rattle.window.proofs.slot_at.Statement.{statement}
 use Rattle.window.proofs.slot_at.Tie as tie
@@ -25,7 +25,7 @@ slot-of-requires c κs = search needs
 returns : tie.Need-returns
 returns c =
     let a = c .before .before .before .before .args in
-    c .slot-of .ensures ∙ ap (λ (l : List ℕ). slotOf l (a .size) (a .i)) (part-behind (a .ring .now) (a .table))
+    c .slot-of .ensures ∙ ap (λ (l : List ℕ). shownOf l (a .size) (a .i)) (part-behind (a .ring .now) (a .table))
 
 sub-slot-of-2 : tie.Need-sub-slot-of-2
 sub-slot-of-2 c = search needs
@@ -43,7 +43,7 @@ returns-2 : tie.Need-returns-2
 returns-2 c =
     let a = c .before .before .before .before .args in
     c .slot-of2 .ensures
-    ∙ ap (λ (l : List ℕ). slotOf l (a .size) (a .i)) (part-none (a .ring .now) (a .table) (c .before .before .if1 .left))
+    ∙ ap (λ (l : List ℕ). shownOf l (a .size) (a .i)) (part-none (a .ring .now) (a .table) (c .before .before .if1 .left))
 
 pub slot-at-spec : {M : Type 1} → statement M
 slot-at-spec =

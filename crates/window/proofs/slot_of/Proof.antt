@@ -43,7 +43,7 @@ use denote.Triple.Clauses.{ensured, lasts}
 use Rattle.base.specs.Answer.{Answer}
 use Rattle.window.specs.declared.Window.{Window}
 use Rattle.window.specs.declared.Slot.{Slot}
-use Rattle.window.specs.Window.{window, answerOf, slotOf}
+use Rattle.window.specs.Window.{window, answerOf, shownOf}
 use Rattle.window.proofs.Window as T
 use Rattle.window.proofs.Window.Laws as T′
 use Rattle.window.proofs.Slot as S
@@ -86,7 +86,7 @@ module _ {M : Type 1} (𝓤 : URA M) (H : Heap 𝓤) (A : Atoms 𝓤) (W : Given
 
   -- what is shown through a window
   abbrev through : Window → Answer
-  through r = slotOf (now (r .table)) (r .size) i
+  through r = shownOf (now (r .table)) (r .size) i
 
   abbrev found : Answer
   found = through (window s n)

@@ -48,7 +48,7 @@ use denote.Triple.Clauses.{ensured, lasts}
 use Rattle.base.specs.Answer.{Answer}
 use Rattle.window.specs.declared.Window.{Window}
 use Rattle.window.specs.declared.Slot.{Slot}
-use Rattle.window.specs.Window.{answerOf, slotOf}
+use Rattle.window.specs.Window.{answerOf, shownOf}
 use Rattle.window.proofs.Window as T
 use Rattle.window.proofs.Window.Laws as T′
 use Rattle.window.proofs.Slot as S
@@ -86,7 +86,7 @@ module _ {M : Type 1} (𝓤 : URA M) (H : Heap 𝓤) (A : Atoms 𝓤) (W : Given
   v = sliceVal (d .table .ptr) (length (d .table .now))
 
   abbrev found : Answer
-  found = slotOf (now (d .table)) (d .size) i
+  found = shownOf (now (d .table)) (d .size) i
 
   abbrev Post : Val → SProp 𝓤
   Post = walkOf 𝓤 H A slot.ended stayed (slot.clauses 𝓤 H A mem run) .post (((κ, tt), (q, tt), tt, (d, (i, tt)), at), tt)

@@ -1,4 +1,4 @@
--- `in_place::advanced` meets its contract: a walk of its MIR, by hand. The cursor's local is lent to `advance_by` for a lifetime
+-- `in_place::advance_own` meets its contract: a walk of its MIR, by hand. The cursor's local is lent to `advance_by` for a lifetime
 -- that is made for the call, and is back at that call's last cursor.
 -- Assumes nothing.
 use mathlib.Core.Path.{refl, ap}
@@ -40,20 +40,20 @@ use denote.Exit.{yes}
 use Rattle.cursor.specs.declared.RingCursor.{RingCursor}
 use Rattle.cursor.proofs.RingCursor as T
 use Rattle.cursor.proofs.RingCursor.Laws as T′
-use Rattle.in_place.specs.declared.Moved.{Moved}
-use Rattle.in_place.proofs.Moved as P
-use Rattle.in_place.proofs.Moved.Laws as P′
+use Rattle.in_place.specs.declared.Left.{Left}
+use Rattle.in_place.proofs.Left as P
+use Rattle.in_place.proofs.Left.Laws as P′
 use Rattle.in_place.proofs.Closed.{closed}
 use Rattle.in_place.proofs.Called.{AdvanceBy, bound, lent, Told, asked, told}
 use Rattle.in_place.proofs.advance_by.Symbol as advance-by-def
 use Rattle.in_place.proofs.advance_by.Symbol.{name as #in-place·advance-by}
 use Rattle.in_place.proofs.advance_by.Met as advance-by-thm
-use Rattle.in_place.proofs.advanced.Key.{name as #in-place·advanced}
-use Rattle.in_place.proofs.advanced as advanced
-use Rattle.in_place.proofs.advanced.Statement as stated
-use Rattle.in_place.proofs.advanced.Code as code
+use Rattle.in_place.proofs.advance_own.Key.{name as #in-place·advance-own}
+use Rattle.in_place.proofs.advance_own as advance-own
+use Rattle.in_place.proofs.advance_own.Statement as stated
+use Rattle.in_place.proofs.advance_own.Code as code
 
-abbrev stayed : Stays (advanced.ended .signature .params) (advanced.ended .kept)
+abbrev stayed : Stays (advance-own.ended .signature .params) (advance-own.ended .kept)
 stayed = (stay-none (λ _. T.the-row) yes, (stay-none (λ _. u16) yes, (stay-none (λ _. u16) yes, tt)))
 
 -- a cursor's machine value is written out
@@ -87,13 +87,13 @@ module _ {M : Type 1} (𝓤 : URA M) (H : Heap 𝓤) (A : Atoms 𝓤) (W : Given
   vals = (T′.lowered h ∷ [], (vint w16 s ∷ [], (vint w16 n ∷ [], tt)))
 
   abbrev Post : Val → SProp 𝓤
-  Post = walkOf 𝓤 H A advanced.ended stayed (advanced.clauses 𝓤 H A at-mem run) .post ((tt, tt, tt, a, vals), tt)
+  Post = walkOf 𝓤 H A advance-own.ended stayed (advance-own.clauses 𝓤 H A at-mem run) .post ((tt, tt, tt, a, vals), tt)
 
   -- what the call tells, at the lent local
   abbrev Tells : Lft → ℕ → GName → Val → ℕ × RingCursor → Type 0
   Tells κ b γ = Told 𝓤 H A at-mem run κ fullShare b 0 γ h s n
 
-  abbrev to : ℕ × RingCursor → Moved
+  abbrev to : ℕ × RingCursor → Left
   to x = record { number = x .0; cursor = x .1 }
 
   made : (x : ℕ × RingCursor) → x .0 < 2 ^ 8 → Fits (x .1) → Is P.the-row (to x) (P′.lowered (to x) ∷ [])
@@ -102,11 +102,11 @@ module _ {M : Type 1} (𝓤 : URA M) (H : Heap 𝓤) (A : Atoms 𝓤) (W : Given
   exits : (κ : Lft) (b : ℕ) (γ : GName) (w : Val) (x : ℕ × RingCursor) → Tells κ b γ w x → Fits (x .1) → ent 𝓤 (sem 𝓤 H A (owns (T.the-row ∷ u16 ∷ u16 ∷ []) a vals)) (Post (P′.lowered (to x)))
   exits κ b γ w x e is =
       qed W (‵ (owns (T.the-row ∷ u16 ∷ u16 ∷ []) a vals) ∷ []) ∵
-      suffices ! _ (ends-at 𝓤 H A advanced.ended stayed (advanced.clauses 𝓤 H A at-mem run) W ((tt, tt, tt, a, vals), tt) (P′.lowered (to x)) (to x) (tt, (tt, (tt, tt))) (tt, (tt, (tt, tt)))) $ says ! (e .1) $
+      suffices ! _ (ends-at 𝓤 H A advance-own.ended stayed (advance-own.clauses 𝓤 H A at-mem run) W ((tt, tt, tt, a, vals), tt) (P′.lowered (to x)) (to x) (tt, (tt, (tt, tt))) (tt, (tt, (tt, tt)))) $ says ! (e .1) $
       owned ! P.the-row (Is P.the-row) (LL.makes P.the-type P′.the-plain 𝓤 H A) (to x) _ (made x (e .0 .1) is) $ move ! (1 ∷ 0 ∷ []) $ nothing ! $ done !
 
   module _ (C : Calls 𝓤 H) (Λ : Loops 𝓤 H) (fm : FmC 𝓤 H (W .laws) C) (known : Triple 𝓤 (C #in-place·advance-by) (AdvanceBy 𝓤 H A at-mem run)) where
-    walk : ent 𝓤 (onEntry 𝓤 H A advanced.signature tt tt a vals) (WpFn 𝓤 H C Λ code.function (T′.lowered h ∷ vint w16 s ∷ vint w16 n ∷ []) Post)
+    walk : ent 𝓤 (onEntry 𝓤 H A advance-own.signature tt tt a vals) (WpFn 𝓤 H C Λ code.function (T′.lowered h ∷ vint w16 s ∷ vint w16 n ∷ []) Post)
     walk =
         qed W (‵ ftrue ∷ ‵ (owns (T.the-row ∷ u16 ∷ u16 ∷ []) a vals) ∷ []) ∵ enter ! C Λ code.function (T′.lowered h ∷ vint w16 s ∷ vint w16 n ∷ []) _ $
         alloc1 ! (λ l₀. alloc1 ! (λ l₁. alloc1 ! (λ l₂. alloc1 ! (λ l₃. alloc1 ! (λ l₄. alloc1 ! (λ l₅. alloc1 ! (λ l₆. alloc1 ! (λ l₇. alloc0 ! $ params1 ! $
@@ -133,17 +133,17 @@ module _ {M : Type 1} (𝓤 : URA M) (H : Heap 𝓤) (A : Atoms 𝓤) (W : Given
         keep ! (1 ∷ []) $ by ! (exits (ν ∷ []) l₄ δ w x e is)))))))))))))))
 
 module _ {M : Type 1} (𝓤 : URA M) (H : Heap 𝓤) (A : Atoms 𝓤) (W : Given 𝓤 H A) (mem : Memory → SProp 𝓤) (run : Routine → Fun 𝓤) where
-  walks : (C : Calls 𝓤 H) (Λ : Loops 𝓤 H) → Triple 𝓤 (C #in-place·advance-by) (AdvanceBy 𝓤 H A mem run) → FmC 𝓤 H (W .laws) C → Walks 𝓤 H A advanced.ended stayed (WpFn 𝓤 H C Λ code.function) (advanced.clauses 𝓤 H A mem run)
-  walks C Λ known fm = walked 𝓤 H A advanced.ended stayed (advanced.clauses 𝓤 H A mem run) (WpFn 𝓤 H C Λ code.function)
+  walks : (C : Calls 𝓤 H) (Λ : Loops 𝓤 H) → Triple 𝓤 (C #in-place·advance-by) (AdvanceBy 𝓤 H A mem run) → FmC 𝓤 H (W .laws) C → Walks 𝓤 H A advance-own.ended stayed (WpFn 𝓤 H C Λ code.function) (advance-own.clauses 𝓤 H A mem run)
+  walks C Λ known fm = walked 𝓤 H A advance-own.ended stayed (advance-own.clauses 𝓤 H A mem run) (WpFn 𝓤 H C Λ code.function)
       (λ κs. (LL.vals T.the-type T′.the-laws, (uint-vals w16, (uint-vals w16, tt)))) (λ κs. (LL.tells T.the-type T′.the-laws, (uint-tells w16, (uint-tells w16, tt))))
       (λ κs qs bounds a _ are. via 𝓤 _ (fst∗ 𝓤 _ (emp 𝓤)) (walk 𝓤 H A W mem run (a .0) (a .1 .0) (a .1 .1 .0) (are .0) (are .1 .0 .1) (are .1 .1 .0 .1) C Λ fm known))
 
-all-go : {M : Type 1} (𝓤 : URA M) (H : Heap 𝓤) (A : Atoms 𝓤) (W : Given 𝓤 H A) → AllGo 𝓤 H A W 0 (advanced.signature .params) (advanced.ended .kept) stayed
+all-go : {M : Type 1} (𝓤 : URA M) (H : Heap 𝓤) (A : Atoms 𝓤) (W : Given 𝓤 H A) → AllGo 𝓤 H A W 0 (advance-own.signature .params) (advance-own.ended .kept) stayed
 all-go 𝓤 H A W = (goes-none 𝓤 H A W 0 (λ _. T.the-row) yes (λ κs x f. refl), (goes-none 𝓤 H A W 0 (λ _. u16) yes (λ κs x f. refl), (goes-none 𝓤 H A W 0 (λ _. u16) yes (λ κs x f. refl), tt)))
 
-pub advanced-spec : {M : Type 1} → stated.statement M
+pub advance-own-spec : {M : Type 1} → stated.statement M
 unfolding code.routine
-advanced-spec 𝓤 H 𝓜 𝓖 𝓡 =
-    closed 𝓤 H 𝓜 𝓖 𝓡 code.env advanced.ended stayed (advanced.clauses 𝓤 H (𝓖 .A) (𝓜 .mem) (𝓡 .run)) #in-place·advanced code.function (code.unfolded 𝓤 H 𝓜 𝓡) (all-go 𝓤 H (𝓖 .A) (givenOf 𝓤 H 𝓜 𝓖))
+advance-own-spec 𝓤 H 𝓜 𝓖 𝓡 =
+    closed 𝓤 H 𝓜 𝓖 𝓡 code.env advance-own.ended stayed (advance-own.clauses 𝓤 H (𝓖 .A) (𝓜 .mem) (𝓡 .run)) #in-place·advance-own code.function (code.unfolded 𝓤 H 𝓜 𝓡) (all-go 𝓤 H (𝓖 .A) (givenOf 𝓤 H 𝓜 𝓖))
     (walks 𝓤 H (𝓖 .A) (givenOf 𝓤 H 𝓜 𝓖) (𝓜 .mem) (𝓡 .run) (tables 𝓤 H 𝓜 𝓡 code.env .C) (tables 𝓤 H 𝓜 𝓡 code.env .Λ)
     (cited 𝓤 H (AdvanceBy 𝓤 H (𝓖 .A) (𝓜 .mem) (𝓡 .run)) 𝓜 𝓡 code.env #in-place·advance-by advance-by-def.routine code.calls-in-place·advance-by (advance-by-thm.met 𝓤 H 𝓜 𝓖 𝓡)))

@@ -1,0 +1,9 @@
+pub mod Positions
+pub mod Slots
+pub mod Chains
+pub mod Used
+pub mod Polled
+pub mod Areas
+pub mod Driver
+pub mod Device
+pub mod Example
