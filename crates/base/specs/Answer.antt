@@ -1,8 +1,7 @@
 -- What a call answers, in document 01's terms: "a definition gives, for each of its cases, this paper's number and values".
 use Prim.Native.Nat.{ℕ}
-use mathlib.Core.List.{List, [], _∷_}
+use mathlib.Core.List.{List, []}
 use mathlib.Core.Bool.{Bool, cond}
-use Rattle.base.specs.declared.RingError.{RingError}
 use Rattle.base.specs.declared.Reply.{Reply}
 use Rattle.base.specs.declared.Reply.the-variants.{Done, Refused}
 use Rattle.base.specs.Refusals.{numberOf}

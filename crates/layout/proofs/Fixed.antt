@@ -1,5 +1,4 @@
 -- Each public contract of the crate determines what its function answers.
-use Prim.Native.Nat.{ℕ}
 use mathlib.Core.Path.{_≡_, ap}
 use native.Mathlib.Omega.{arith}
 use lib.ListN.{getD}

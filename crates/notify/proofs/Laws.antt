@@ -2,9 +2,9 @@
 -- Assumes nothing.
 use Prim.Native.Nat.{ℕ, _+_, _-_, _≤_, _<_}
 use mathlib.Core.Path.{_≡_}
-use mathlib.Core.Bool.{true, false, not, _||_}
+use mathlib.Core.Bool.{true, false}
 use native.Mathlib.Omega.{arith}
-use borrow.Author.Tests.{eq-eqb, ne-eqb, le-leb, lt-leb}
+use borrow.Author.Tests.{eq-eqb, le-leb, lt-leb}
 use Rattle.cursor.specs.declared.RingCursor.{RingCursor}
 use Rattle.event.specs.declared.EventSuppression.{EventSuppression}
 use Rattle.event.specs.Event.{ENABLE, DISABLE, DESC, flagsOf, offOf}
