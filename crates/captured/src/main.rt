@@ -2,7 +2,9 @@
 // Standard input: records of seventeen bytes, 'S' and a slot's sixteen, or 'E', an event area's four and twelve zeros.
 use desc::Descriptor;
 use event::EventSuppression;
-use libc::STDOUT_FILENO;
+use say::either;
+use say::number;
+use say::words;
 
 fn main() {
     let mut input = io::buffer();
@@ -29,38 +31,23 @@ fn show(input: &[u8], at: usize) {
 
 // slot ADDRESS LENGTH ID, readable or writable, next or last, and the one round in which it is available or used.
 fn slot(d: Descriptor) {
-    io::write_all(STDOUT_FILENO, b"slot ");
-    io::print_decimal(STDOUT_FILENO, d.addr);
-    number(d.len as u64);
-    number(d.id as u64);
-    word(d.is_writable(), b" writable", b" readable");
-    word(d.is_next(), b" next", b" last");
-    word(d.is_indirect(), b" indirect", b"");
-    word(d.is_avail(true), b" available 1", b"");
-    word(d.is_avail(false), b" available 0", b"");
-    word(d.is_used(true), b" used 1", b"");
-    word(d.is_used(false), b" used 0", b"");
-    io::write_all(STDOUT_FILENO, b"\n");
+    number(b"slot ", d.addr);
+    number(b" ", d.len as u64);
+    number(b" ", d.id as u64);
+    either(d.is_writable(), b" writable", b" readable");
+    either(d.is_next(), b" next", b" last");
+    either(d.is_indirect(), b" indirect", b"");
+    either(d.is_avail(true), b" available 1", b"");
+    either(d.is_avail(false), b" available 0", b"");
+    either(d.is_used(true), b" used 1", b"");
+    either(d.is_used(false), b" used 0", b"");
+    words(b"\n");
 }
 
 // event OFFSET WRAP FLAGS
 fn area(e: EventSuppression) {
-    io::write_all(STDOUT_FILENO, b"event");
-    number(e.desc_event_off() as u64);
-    word(e.desc_event_wrap(), b" 1", b" 0");
-    number(e.flags() as u64);
-    io::write_all(STDOUT_FILENO, b"\n");
-}
-
-fn number(n: u64) {
-    io::write_all(STDOUT_FILENO, b" ");
-    io::print_decimal(STDOUT_FILENO, n);
-}
-
-fn word(b: bool, yes: &[u8], no: &[u8]) {
-    if b {
-        io::write_all(STDOUT_FILENO, yes);
-    } else {
-        io::write_all(STDOUT_FILENO, no);
-    }
+    number(b"event ", e.desc_event_off() as u64);
+    either(e.desc_event_wrap(), b" 1", b" 0");
+    number(b" ", e.flags() as u64);
+    words(b"\n");
 }

@@ -49,7 +49,7 @@ fn turn(
 }
 
 fn unknown(c: RingConsumer) -> RingConsumer {
-    tell::words(b"unknown record\n");
+    say::words(b"unknown record\n");
     c
 }
 
