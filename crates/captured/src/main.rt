@@ -1,5 +1,6 @@
 // What Linux's driver and QEMU's device put into memory (see oracle/captured), decoded by the ring's own leaves.
-// Standard input: records of seventeen bytes, 'S' and a slot's sixteen, or 'E', an event area's four and twelve zeros.
+// Standard input: 1 to 240 records of seventeen bytes, 'S' and a slot's sixteen, or 'E', an event area's four and twelve more.
+// What is none is answered with the line `bad`.
 use desc::Descriptor;
 use event::EventSuppression;
 use say::either;
@@ -9,24 +10,48 @@ use say::words;
 fn main() {
     let mut input = io::buffer();
     let n = io::read_full(0, &mut input);
+    if (n == 0) | (n % 17 != 0) | !are_known(&input, n) {
+        words(b"bad\n");
+    } else {
+        show_all(&input, n);
+    }
+}
+
+// Does every record of the first n bytes begin with one of the two letters?
+fn are_known(input: &[u8], n: usize) -> bool {
     for i in 0..240 {
         let at = 17 * i;
-        if at + 17 <= n {
-            show(&input, at);
+        if (at < n) & !is_known(letter(input, at)) {
+            return false;
+        }
+    }
+    true
+}
+
+fn is_known(b: u8) -> bool {
+    (b == b'S') | (b == b'E')
+}
+
+fn show_all(input: &[u8], n: usize) {
+    for i in 0..240 {
+        let at = 17 * i;
+        if at < n {
+            show(input, at);
         }
     }
 }
 
 fn show(input: &[u8], at: usize) {
-    if input.len() <= at {
-        return;
-    }
     let behind = std::num::wrapping_add_usize(at, 1);
-    if input[at] == b'S' {
+    if letter(input, at) == b'S' {
         slot(Descriptor::decode(desc::load(input, behind)));
     } else {
         area(EventSuppression::read(input, behind));
     }
+}
+
+fn letter(input: &[u8], at: usize) -> u8 {
+    if at < input.len() { input[at] } else { 0 }
 }
 
 // slot ADDRESS LENGTH ID, readable or writable, next or last, and the one round in which it is available or used.
