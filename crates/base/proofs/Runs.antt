@@ -32,12 +32,12 @@ sets-more vs l i k h =
     ∙ ap (sets l i) (sym (ap (λ (n : ℕ). take n vs) (add-one k) ∙ take-suc vs k 0 h))
 
 -- a part behind the stores, a part before them, and the part itself
-pub part-after : (vs l : List ℕ) (i n j : ℕ) → i + length vs ≤ j → take n (drop j (sets l i vs)) ≡ take n (drop j l)
+part-after : (vs l : List ℕ) (i n j : ℕ) → i + length vs ≤ j → take n (drop j (sets l i vs)) ≡ take n (drop j l)
 part-after [] l i n j h = refl
 part-after (v ∷ vs) l i n j h =
     part-after vs (set l i v) (suc i) n j (omega arith) ∙ ap (take n) (drop-set-lt j l i v (omega arith))
 
-pub part-before : (vs l : List ℕ) (i n j : ℕ) → j + n ≤ i → take n (drop j (sets l i vs)) ≡ take n (drop j l)
+part-before : (vs l : List ℕ) (i n j : ℕ) → j + n ≤ i → take n (drop j (sets l i vs)) ≡ take n (drop j l)
 part-before [] l i n j h = refl
 part-before (v ∷ vs) l i n j h =
     let e : i ≡ j + (i - j) = omega arith in

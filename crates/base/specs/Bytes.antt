@@ -1,4 +1,5 @@
--- Numbers in little-endian bytes, for any number of bytes (VIRTIO 1.1, 1.4: fields are little-endian).
+-- Numbers in little-endian bytes, for any number of bytes (VIRTIO 1.1, 1.4: fields are little-endian), and bytes put into the
+-- lent ones and taken from them.
 use Prim.Native.Nat.{ℕ, zero, suc, _+_, _*_, _/_, _%_}
 use mathlib.Core.List.{List, [], _∷_}
 use mathlib.Core.Bool.{cond}

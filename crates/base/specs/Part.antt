@@ -1,4 +1,5 @@
--- A slice, and a part of it: which elements it has, and that it lies where they lie.
+-- A slice, and a part of it: which elements it has, and that it lies where they lie (document 01, "hand back a part of one
+-- slice").
 use Prim.Native.Nat.{ℕ, _+_, _*_}
 use mathlib.Core.List.{List}
 use lib.ListN.{take, drop}

@@ -1,66 +1,78 @@
 // What Linux's driver and QEMU's device put into memory (see oracle/captured), decoded by the ring's own leaves.
-// Standard input: records of seventeen bytes, 'S' and a slot's sixteen, or 'E', an event area's four and twelve zeros.
+// Standard input: 1 to 240 records of seventeen bytes, 'S' and a slot's sixteen, or 'E', an event area's four and twelve more.
+// What is none is answered with the line `bad`.
 use desc::Descriptor;
 use event::EventSuppression;
-use libc::STDOUT_FILENO;
+use say::either;
+use say::number;
+use say::words;
 
 fn main() {
     let mut input = io::buffer();
     let n = io::read_full(0, &mut input);
+    if (n == 0) | (n % 17 != 0) | !are_known(&input, n) {
+        words(b"bad\n");
+    } else {
+        show_all(&input, n);
+    }
+}
+
+// Does every record of the first n bytes begin with one of the two letters?
+fn are_known(input: &[u8], n: usize) -> bool {
     for i in 0..240 {
         let at = 17 * i;
-        if at + 17 <= n {
-            show(&input, at);
+        if (at < n) & !is_known(letter(input, at)) {
+            return false;
+        }
+    }
+    true
+}
+
+fn is_known(b: u8) -> bool {
+    (b == b'S') | (b == b'E')
+}
+
+fn show_all(input: &[u8], n: usize) {
+    for i in 0..240 {
+        let at = 17 * i;
+        if at < n {
+            show(input, at);
         }
     }
 }
 
 fn show(input: &[u8], at: usize) {
-    if input.len() <= at {
-        return;
-    }
     let behind = std::num::wrapping_add_usize(at, 1);
-    if input[at] == b'S' {
+    if letter(input, at) == b'S' {
         slot(Descriptor::decode(desc::load(input, behind)));
     } else {
         area(EventSuppression::read(input, behind));
     }
 }
 
+fn letter(input: &[u8], at: usize) -> u8 {
+    if at < input.len() { input[at] } else { 0 }
+}
+
 // slot ADDRESS LENGTH ID, readable or writable, next or last, and the one round in which it is available or used.
 fn slot(d: Descriptor) {
-    io::write_all(STDOUT_FILENO, b"slot ");
-    io::print_decimal(STDOUT_FILENO, d.addr);
-    number(d.len as u64);
-    number(d.id as u64);
-    word(d.is_writable(), b" writable", b" readable");
-    word(d.is_next(), b" next", b" last");
-    word(d.is_indirect(), b" indirect", b"");
-    word(d.is_avail(true), b" available 1", b"");
-    word(d.is_avail(false), b" available 0", b"");
-    word(d.is_used(true), b" used 1", b"");
-    word(d.is_used(false), b" used 0", b"");
-    io::write_all(STDOUT_FILENO, b"\n");
+    number(b"slot ", d.addr);
+    number(b" ", d.len as u64);
+    number(b" ", d.id as u64);
+    either(d.is_writable(), b" writable", b" readable");
+    either(d.is_next(), b" next", b" last");
+    either(d.is_indirect(), b" indirect", b"");
+    either(d.is_avail(true), b" available 1", b"");
+    either(d.is_avail(false), b" available 0", b"");
+    either(d.is_used(true), b" used 1", b"");
+    either(d.is_used(false), b" used 0", b"");
+    words(b"\n");
 }
 
 // event OFFSET WRAP FLAGS
 fn area(e: EventSuppression) {
-    io::write_all(STDOUT_FILENO, b"event");
-    number(e.desc_event_off() as u64);
-    word(e.desc_event_wrap(), b" 1", b" 0");
-    number(e.flags() as u64);
-    io::write_all(STDOUT_FILENO, b"\n");
-}
-
-fn number(n: u64) {
-    io::write_all(STDOUT_FILENO, b" ");
-    io::print_decimal(STDOUT_FILENO, n);
-}
-
-fn word(b: bool, yes: &[u8], no: &[u8]) {
-    if b {
-        io::write_all(STDOUT_FILENO, yes);
-    } else {
-        io::write_all(STDOUT_FILENO, no);
-    }
+    number(b"event ", e.desc_event_off() as u64);
+    either(e.desc_event_wrap(), b" 1", b" 0");
+    number(b" ", e.flags() as u64);
+    words(b"\n");
 }

@@ -3,13 +3,15 @@
 use Prim.Native.Nat.{ℕ, _+_, _-_, _*_, _≤_, _<_}
 use mathlib.Core.Path.{_≡_, ap}
 use native.Mathlib.Omega.{arith}
-use mathlib.Core.Bool.{false, not}
+use mathlib.Core.List.{[]}
+use mathlib.Core.Bool.{true, false, not}
 use lib.Dec.{eqb, ltb}
 use lib.ListN.{length, take}
 use borrow.Author.Tests.{le-leb, lt-leb, eqb-true, ltb-false, not-false}
+use Rattle.base.specs.Answer.{done, refused}
 use Rattle.base.specs.Part.{Slice, slice, part}
 use Rattle.base.proofs.Tests.{neither}
-use Rattle.chain.specs.Chain.{emptyEnd, readablesOf, writablesOf, badChain}
+use Rattle.chain.specs.Chain.{emptyEnd, readablesOf, writablesOf, badChain, checkOf}
 
 module _ (w n : ℕ) (s : Slice) where
   -- the first part begins where the slice does, and a part of no length is the empty end
@@ -42,6 +44,16 @@ module _ (w n : ℕ) (s : Slice) where
       → part w (length (s .elements)) (length (s .elements) - length (s .elements)) s ≡ writablesOf w n s
   unfolding writablesOf
   none-writable h = simp (lt-leb n (length (s .elements)) h) last
+
+-- the check, exit by exit
+module _ (addrs lens readable : ℕ) where
+  pub check-refused : badChain addrs lens readable ≡ true → checkOf addrs lens readable ≡ refused 8
+  unfolding checkOf
+  check-refused e = simp e
+
+  pub check-done : badChain addrs lens readable ≡ false → checkOf addrs lens readable ≡ done []
+  unfolding checkOf
+  check-done e = simp e
 
 -- what a chain that is not refused may count on
 pub record Good (addrs lens readable : ℕ) : Type 0 where

@@ -16,6 +16,7 @@ emptyEnd w s = part w (length (s .elements)) 0 s
 unfoldable pub readablesOf : ℕ → ℕ → Slice → Slice
 readablesOf w n s = cond (leb n (length (s .elements))) (part w 0 n s) (emptyEnd w s)
 
+-- what is left behind the readable part
 unfoldable pub writablesOf : ℕ → ℕ → Slice → Slice
 writablesOf w n s =
     cond (leb n (length (s .elements))) (part w n (length (s .elements) - n) s) (emptyEnd w s)

@@ -1,10 +1,6 @@
 -- Each public contract of the crate determines what its function answers.
-use Prim.Native.Nat.{ℕ}
-use mathlib.Core.Path.{_≡_, sym, ap, ap₂, _∙_}
-use mathlib.Core.List.{List, [], _∷_}
+use mathlib.Core.Path.{_≡_, ap, ap₂}
 use native.Mathlib.Omega.{arith}
-use lib.ListN.{getD}
-use Rattle.base.specs.Answer.{Answer}
 use Rattle.base.specs.Determined.{Determined}
 use Rattle.base.proofs.Determine.{by-equation, by-answer}
 use Rattle.base.proofs.Refusals.{number-low, number-same}

@@ -1,15 +1,15 @@
 -- What a move that is not refused may count on, and what it answers.
 -- Assumes nothing.
 use Prim.Native.Nat.{ℕ, _≤_, _<_}
-use mathlib.Core.Path.{_≡_, refl, sym, _∙_, ap}
-use mathlib.Core.Bool.{Bool, true, false, cond, _||_}
+use mathlib.Core.Path.{_≡_}
+use mathlib.Core.Bool.{true, false}
 use native.Mathlib.Omega.{arith}
 use lib.Dec.{ltb, leb, eqb}
 use borrow.Author.Tests.{ne-eqb, le-ltb, lt-leb, eqb-false, ltb-false, leb-false}
 use Rattle.base.specs.Answer.{done, refused}
 use Rattle.base.proofs.Tests.{neither, positive}
 use Rattle.cursor.specs.declared.RingCursor.{RingCursor}
-use Rattle.cursor.specs.Cursor.{steps, badMove, valuesOf, Outcome, outcome, advanceOf}
+use Rattle.cursor.specs.Cursor.{steps, badMove, valuesOf, outcome, advanceOf}
 
 -- refusal 7's conditions, none of which holds
 pub record Ready (size n : ℕ) (c : RingCursor) : Type 0 where

@@ -1,7 +1,7 @@
 -- A cursor of the ring (document 01, "Slots, flags and cursors"; VIRTIO 1.1, 2.7.1).
 use Prim.Native.Nat.{ℕ, zero, suc, _+_}
 use mathlib.Core.List.{List, [], _∷_}
-use mathlib.Core.Bool.{Bool, true, false, not, cond, _||_}
+use mathlib.Core.Bool.{Bool, true, not, cond, _||_}
 use lib.Dec.{ltb, leb, eqb}
 use Rattle.base.specs.Refusals.{numberOf}
 use Rattle.base.specs.Answer.{Answer, done, refused, bit}

@@ -1,4 +1,5 @@
--- The flags of a descriptor (document 01, "Slots, flags and cursors"; VIRTIO 1.1, 2.7.1).
+-- The flags of a descriptor (document 01, "Slots, flags and cursors"; VIRTIO 1.1, 2.7.1 on AVAIL and USED, 2.7.3 on WRITE,
+-- 2.7.5 on NEXT).
 use Prim.Native.Nat.{ℕ, _+_, _*_, _/_, _%_}
 use mathlib.Core.Bool.{Bool, not, _&&_, Bool·beq}
 use lib.Dec.{eqb}

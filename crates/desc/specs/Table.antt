@@ -1,4 +1,4 @@
--- The table of slots: where each one is in the lent bytes.
+-- The table of slots: where each one is in the lent bytes (VIRTIO 1.1, 2.7.10.1: 16 bytes a slot).
 use Prim.Native.Nat.{ℕ, _+_, _*_}
 use mathlib.Core.List.{[], _∷_}
 use mathlib.Core.Bool.{cond, _&&_}
@@ -8,6 +8,7 @@ use Rattle.desc.specs.declared.DescTable.{DescTable}
 use Rattle.desc.specs.declared.DescAddr.{DescAddr}
 use Rattle.desc.specs.declared.DescAddr.the-variants.{At, Nowhere}
 
+-- a table's place in the lent bytes, and its number of slots
 abbrev pub table : ℕ → ℕ → DescTable
 table b n = record { «base_addr» = b; len = n }
 

@@ -4,7 +4,7 @@ use Prim.Native.Nat.{ℕ, _+_, _^_, _<_}
 use mathlib.Core.Path.{_≡_, sym, _∙_, ap, ap₂}
 use mathlib.Core.List.{List, [], _++_, append-nil}
 use native.Mathlib.Omega.{arith}
-use lib.ListN.{length, take, drop, length-append, take-append-drop}
+use lib.ListN.{length, take, length-append}
 use lib.Seq.{take-all, take-add}
 use Rattle.base.specs.Bytes.{bytesOf, wordAt}
 use Rattle.base.proofs.Words.{Bytes, bytes-are, bytes-append, word-bytes, word-after, bytes-word, length-bytes}

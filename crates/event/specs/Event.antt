@@ -16,6 +16,7 @@ DISABLE = 1
 abbrev pub DESC : ℕ
 DESC = 2
 
+-- an area's two words
 abbrev pub event : ℕ → ℕ → EventSuppression
 event o f = record { «off_wrap» = o; flags = f }
 
@@ -41,5 +42,6 @@ setDescEvent e o w = event (o % 32768 + cond w 32768 0) (e .flags)
 unfoldable pub encodeOf : EventSuppression → List ℕ
 encodeOf e = bytesOf 2 (e .«off_wrap») ++ bytesOf 2 (e .flags)
 
+-- the area of four bytes: the same words, from the same places
 unfoldable pub decodeOf : List ℕ → EventSuppression
 decodeOf bs = event (wordAt bs 0 2) (wordAt bs 2 2)

@@ -38,11 +38,11 @@ pub fn start(
 fn named(r: Record, size: AskedCount) {
     let b = r.bytes;
     let name = [b[0], b[1], b[2]];
-    tell::words(&name);
+    say::words(&name);
     match size {
         AskedCount::Is(n) => {
-            tell::number(b" (size ", n as u64);
-            tell::words(b")\n");
+            say::number(b" (size ", n as u64);
+            say::words(b")\n");
         }
         AskedCount::Refused(e) => tell::refused(e),
     }
@@ -72,27 +72,27 @@ pub fn pop(c: RingConsumer, ring: &[u8], counts: &mut [u16]) -> RingConsumer {
 }
 
 fn popped(chain: PolledChain, addrs: &[u64], lens: &[u32]) {
-    tell::number(b"pop id ", chain.id as u64);
-    tell::number(b" n ", chain.count as u64);
-    tell::number(b" readable ", chain.readable as u64);
+    say::number(b"pop id ", chain.id as u64);
+    say::number(b" n ", chain.count as u64);
+    say::number(b" readable ", chain.readable as u64);
     tell::elements(addrs, lens, chain.count, chain.readable);
-    tell::words(b"\n");
+    say::words(b"\n");
 }
 
 // QEMU's none is the port's refusal 3; any other refusal is one.
 fn nothing(e: RingError) {
     let n = e.number();
     if n == 3 {
-        tell::words(b"none\n");
+        say::words(b"none\n");
     } else {
         tell::refused(e);
     }
 }
 
 fn asked(r: Record) {
-    tell::number(b"push ", r.id as u64);
-    tell::number(b" ", r.len as u64);
-    tell::words(b" => ");
+    say::number(b"push ", r.id as u64);
+    say::number(b" ", r.len as u64);
+    say::words(b" => ");
 }
 
 pub fn push(
@@ -110,7 +110,7 @@ pub fn push(
 fn answered(a: Answered, r: Record, ring: &mut [u8], twin: &mut [u8]) -> RingConsumer {
     match a {
         Answered::Done(c) => {
-            tell::words(b"ok");
+            say::words(b"ok");
             memory::compare(c.layout, r, ring, twin);
             c
         }
@@ -140,20 +140,20 @@ pub fn push_and_ask(
 }
 
 fn told(ours: bool, theirs: bool) {
-    tell::either(ours, b"notify 1", b"notify 0");
+    say::either(ours, b"notify 1", b"notify 0");
     if ours != theirs {
-        tell::either(theirs, b", QEMU notify 1", b", QEMU notify 0");
+        say::either(theirs, b", QEMU notify 1", b", QEMU notify 0");
     }
-    tell::words(b"\n");
+    say::words(b"\n");
 }
 
 // QEMU turns them on at the slot that it pops next.
 pub fn turn(c: RingConsumer, r: Record, ring: &mut [u8], twin: &mut [u8]) -> RingConsumer {
     if r.op == b'A' {
-        tell::words(b"notif on => ");
+        say::words(b"notif on => ");
         let a = c.enable_avail_notifications_for_next(ring);
         return answered(a, r, ring, twin);
     }
-    tell::words(b"notif off => ");
+    say::words(b"notif off => ");
     answered(c.disable_avail_notifications(ring), r, ring, twin)
 }

@@ -1,8 +1,8 @@
 // The exchanges of Linux's driver and QEMU's device (see oracle/captured), with the port's consumer in QEMU's place: over the bytes
 // that Linux wrote it polls and completes as QEMU did. A line is what it answered and, behind ", QEMU", what QEMU had instead.
 //
-// Standard input: at most 170 records of 24 bytes: an op, a slot, an ID of two bytes, a length of four, sixteen bytes; numbers are
-// little-endian, and what an op does not name is zero.
+// Standard input: 1 to 170 records of 24 bytes: an op, a slot, an ID of two bytes, a length of four, sixteen bytes; numbers are
+// little-endian, and what an op does not name is zero. What is none is answered with the line `bad`.
 //   S  a ring of as many slots as `slot` says, all bytes zero; the first three of the sixteen are its name
 //   L  Linux wrote the sixteen into the slot            D  Linux wrote the first four into the driver's event area
 //   P  QEMU popped
@@ -22,13 +22,32 @@ use record::Record;
 
 fn main() {
     let mut input = io::buffer();
+    let n = io::read_full(0, &mut input);
+    if (n == 0) | (n % 24 != 0) | !are_known(&input, n) {
+        say::words(b"bad\n");
+    } else {
+        run(&input, n);
+    }
+}
+
+// Does every record of the first n bytes have an op of those above?
+fn are_known(input: &[u8], n: usize) -> bool {
+    for i in 0..170 {
+        let at = 24 * i;
+        if (at < n) & !Record::read(input, at).is_known() {
+            return false;
+        }
+    }
+    true
+}
+
+fn run(input: &[u8], n: usize) {
     let mut ring = [0u8; 264];
     let mut twin = [0u8; 264];
     let mut counts = [0u16; 16];
     let mut c = closed();
-    let n = io::read_full(0, &mut input);
     for i in 0..170 {
-        c = turn(c, &input, n, 24 * i, &mut ring, &mut twin, &mut counts);
+        c = turn(c, input, n, 24 * i, &mut ring, &mut twin, &mut counts);
     }
 }
 
@@ -45,11 +64,6 @@ fn turn(
     if pick::ends_by(at, 24, n) {
         return step(c, Record::read(input, at), ring, twin, counts);
     }
-    c
-}
-
-fn unknown(c: RingConsumer) -> RingConsumer {
-    tell::words(b"unknown record\n");
     c
 }
 
@@ -86,6 +100,6 @@ fn step(
         b'U' => device::push(c, r, ring, twin, counts),
         b'Y' | b'N' => device::push_and_ask(c, r, ring, twin, counts),
         b'A' | b'O' => device::turn(c, r, ring, twin),
-        _ => unknown(c),
+        _ => c,
     }
 }

@@ -1,6 +1,5 @@
 // The bytes of the ring, the port's and the captured ones, side by side.
 use crate::record::Record;
-use crate::tell;
 use base::bytes;
 use event::EventSuppression;
 use layout::Layout;
@@ -24,14 +23,14 @@ pub fn put(s: &mut [u8], l: Layout, r: Record) {
 // What the port's call changed, then what QEMU has instead. From here on QEMU's bytes stand, so that what Linux writes later
 // stands over the true ones.
 pub fn compare(l: Layout, r: Record, ring: &mut [u8], twin: &mut [u8]) {
-    tell::words(b" |");
+    say::words(b" |");
     places(l, ring, twin);
     put(twin, l, r);
     if differ(ring, twin, 0, ring.len()) {
-        tell::words(b", QEMU");
+        say::words(b", QEMU");
         places(l, twin, ring);
     }
-    tell::words(b"\n");
+    say::words(b"\n");
     bytes::put(ring, 0, twin);
 }
 
@@ -51,15 +50,15 @@ fn slots(size: u16, s: &[u8], t: &[u8]) {
 fn slot(k: u16, s: &[u8], t: &[u8]) {
     let at = 16 * (k as usize);
     if differ(s, t, at, 16) {
-        tell::number(b" ", k as u64);
-        tell::words(b":");
+        say::number(b" ", k as u64);
+        say::words(b":");
         hex(s, at, 16);
     }
 }
 
 fn area(name: &[u8], at: usize, s: &[u8], t: &[u8]) {
     if differ(s, t, at, 4) {
-        tell::words(name);
+        say::words(name);
         hex(s, at, 4);
     }
 }
@@ -75,7 +74,7 @@ fn differ(s: &[u8], t: &[u8], at: usize, n: usize) -> bool {
 
 fn hex(s: &[u8], at: usize, n: usize) {
     for k in 0..n {
-        tell::hex(byte(s, at, k));
+        say::hex(byte(s, at, k));
     }
 }
 

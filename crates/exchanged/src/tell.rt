@@ -1,32 +1,13 @@
 // What is written, in the captures' own words.
 use base::RingError;
 use base::pick;
-use libc::STDOUT_FILENO;
-
-pub fn words(w: &[u8]) {
-    io::write_all(STDOUT_FILENO, w);
-}
-
-pub fn number(before: &[u8], n: u64) {
-    words(before);
-    io::print_decimal(STDOUT_FILENO, n);
-}
-
-pub fn hex(b: u8) {
-    io::print_hex(STDOUT_FILENO, b as u64, 2);
-}
+use say::either;
+use say::number;
+use say::words;
 
 pub fn refused(e: RingError) {
     number(b"refused ", e.number() as u64);
     words(b"\n");
-}
-
-pub fn either(b: bool, yes: &[u8], no: &[u8]) {
-    if b {
-        words(yes);
-    } else {
-        words(no);
-    }
 }
 
 // The elements of a chain: address, length, and r or w.

@@ -9,14 +9,15 @@ use Rattle.layout.specs.declared.Layout.{Layout}
 use Rattle.layout.specs.declared.LaidOut.{LaidOut}
 use Rattle.layout.specs.declared.LaidOut.the-variants.{At, Refused}
 
+-- a ring's number of slots, and the offsets of its table and of the driver's and the device's event area
 abbrev pub layout : ℕ → ℕ → ℕ → ℕ → Layout
 layout size table driver device = record { table = table; driver = driver; device = device; size = size }
 
--- n bytes from a, and m from b, do not overlap
+-- n bytes from a, and m from b, do not overlap: one run ends by the other's start
 unfoldable pub apart : ℕ → ℕ → ℕ → ℕ → Bool
 apart a n b m = leb (a + n) b || leb (b + m) a
 
--- a slot is 16 bytes, an event area 4
+-- 16 bytes a slot (2.7.10.1); an event area has 4
 abbrev pub tableBytes : Layout → ℕ
 tableBytes l = l .size * 16
 

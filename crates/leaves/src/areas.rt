@@ -1,14 +1,13 @@
 // The geometry: sizes, places, overlaps and ends.
-use crate::tell;
-use crate::tell::bit;
-use crate::tell::refused;
 use layout::LaidOut;
 use layout::Layout;
+use say::bit;
+use say::refusal;
 
 fn opened(l: LaidOut) -> u64 {
     match l {
         LaidOut::At(_) => 0,
-        LaidOut::Refused(e) => refused(e, 0),
+        LaidOut::Refused(e) => refusal(e.number(), 0),
     }
 }
 
@@ -16,13 +15,13 @@ fn opened(l: LaidOut) -> u64 {
 fn sized(size: u16, bytes: usize, want: u64) {
     let end = 16 * (size as usize);
     let l = Layout::new(size, 0, end, end + 4, bytes);
-    tell::case(b"size", opened(l), want);
+    say::case(b"size", opened(l), want);
 }
 
 // Four slots over 96 bytes.
 fn placed(table: usize, driver: usize, device: usize, want: u64) {
     let l = Layout::new(4, table, driver, device, 96);
-    tell::case(b"areas", opened(l), want);
+    say::case(b"areas", opened(l), want);
 }
 
 // A stored geometry of four slots: 10 if no opening would have taken it, 1 if so many bytes are too few.
@@ -33,7 +32,7 @@ fn stored(table: usize, driver: usize, device: usize, bytes: usize, want: u64) {
         device,
         size: 4,
     };
-    tell::case(
+    say::case(
         b"stored",
         10 * bit(l.is_bad()) + bit(l.is_outside(bytes)),
         want,

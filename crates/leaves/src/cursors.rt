@@ -1,8 +1,7 @@
 // The cursor. What a move gives is twice the head and the wrap, and 1,000,000 for each number of a refusal.
-use crate::tell;
-use crate::tell::bit;
 use cursor::Advanced;
 use cursor::RingCursor;
+use say::bit;
 
 fn code(c: RingCursor) -> u64 {
     std::num::wrapping_add_u64(2 * (c.head() as u64), bit(c.wrap()))
@@ -19,22 +18,22 @@ fn moved(a: Advanced) -> u64 {
 
 fn step(size: u16, head: u16, wrap: bool, want: u64) {
     let c = RingCursor { head, wrap };
-    tell::case(b"advance", moved(c.advance(size)), want);
+    say::case(b"advance", moved(c.advance(size)), want);
 }
 
 fn stepped(size: u16, head: u16, wrap: bool, want: u64) {
     let c = RingCursor { head, wrap };
-    tell::case(b"stepped", code(c.stepped(size)), want);
+    say::case(b"stepped", code(c.stepped(size)), want);
 }
 
 fn by(size: u16, head: u16, wrap: bool, n: u16, want: u64) {
     let c = RingCursor { head, wrap };
-    tell::case(b"advance_by", moved(c.advance_by(size, n)), want);
+    say::case(b"advance_by", moved(c.advance_by(size, n)), want);
 }
 
 fn kept(size: u16, head: u16, wrap: bool, n: u16, want: u64) {
     let c = RingCursor { head, wrap };
-    tell::case(b"moved", code(c.moved(size, n)), want);
+    say::case(b"moved", code(c.moved(size, n)), want);
 }
 
 fn lent(size: u16, head: u16, wrap: bool, n: u16, want: u64) {
@@ -45,7 +44,7 @@ fn lent(size: u16, head: u16, wrap: bool, n: u16, want: u64) {
 
 fn fresh(head: u16, wrap: bool, want: u64) {
     let c = RingCursor { head, wrap };
-    tell::case(b"reset", code(c.reset()), want);
+    say::case(b"reset", code(c.reset()), want);
 }
 
 // One step: the wrap flips where the head lands on 0.

@@ -4,7 +4,6 @@ mod areas;
 mod cursors;
 mod marks;
 mod notifies;
-mod tell;
 
 fn main() {
     numbers();
@@ -23,7 +22,7 @@ fn main() {
 // A number of the table, given its name and asked for its number again.
 fn numbered(n: u8, want: u64) {
     let e = base::RingError::numbered(n);
-    tell::case(b"numbered", e.number() as u64, want);
+    say::case(b"numbered", e.number() as u64, want);
 }
 
 // The nine refusals; a number that the table has not is taken for 9.

@@ -1,7 +1,6 @@
 // The flags of a slot, each alone and all at once.
-use crate::tell;
-use crate::tell::bit;
 use desc::Descriptor;
+use say::bit;
 
 // is_avail and is_used in round true, the same in round false, then NEXT, WRITE and INDIRECT, as seven digits.
 fn tested(flags: u16, want: u64) {
@@ -9,21 +8,21 @@ fn tested(flags: u16, want: u64) {
     let a = 1000000 * bit(d.is_avail(true)) + 100000 * bit(d.is_used(true));
     let b = 10000 * bit(d.is_avail(false)) + 1000 * bit(d.is_used(false));
     let c = 100 * bit(d.is_next()) + 10 * bit(d.is_writable()) + bit(d.is_indirect());
-    tell::case(b"tests", a + b + c, want);
+    say::case(b"tests", a + b + c, want);
 }
 
 fn avail(flags: u16, wrap: bool, want: u64) {
     let d = Descriptor::new(0, 0, 0, flags).mark_avail(wrap);
-    tell::case(b"mark_avail", d.flags as u64, want);
+    say::case(b"mark_avail", d.flags as u64, want);
 }
 
 fn used(flags: u16, wrap: bool, want: u64) {
     let d = Descriptor::new(0, 0, 0, flags).mark_used(wrap);
-    tell::case(b"mark_used", d.flags as u64, want);
+    say::case(b"mark_used", d.flags as u64, want);
 }
 
 fn read(flags: u16, want: u64) {
-    tell::case(
+    say::case(
         b"flags",
         Descriptor::new(0, 0, 0, flags).flags() as u64,
         want,

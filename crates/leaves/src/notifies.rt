@@ -1,15 +1,14 @@
 // The notify test: 0 no, 1 yes, a refusal by 1,000 for each number.
-use crate::tell;
-use crate::tell::bit;
-use crate::tell::refused;
 use cursor::RingCursor;
 use event::EventSuppression;
 use notify::Notified;
+use say::bit;
+use say::refusal;
 
 fn answer(n: Notified) -> u64 {
     match n {
         Notified::Notify(b) => bit(b),
-        Notified::Refused(e) => refused(e, 0),
+        Notified::Refused(e) => refusal(e.number(), 0),
     }
 }
 
@@ -24,7 +23,7 @@ fn told(off_wrap: u16, flags: u16, want: u64) {
         wrap: true,
     };
     let n = notify::should_notify(EventSuppression::new(off_wrap, flags), 8, old, new);
-    tell::case(b"notify", answer(n), want);
+    say::case(b"notify", answer(n), want);
 }
 
 // DESC at (0, true), from a head to another in round true.
@@ -38,11 +37,11 @@ fn over(size: u16, old: u16, new: u16, want: u64) {
         wrap: true,
     };
     let n = notify::should_notify(EventSuppression::new(32768, 2), size, from, to);
-    tell::case(b"heads", answer(n), want);
+    say::case(b"heads", answer(n), want);
 }
 
 fn need(event: u16, new: u16, old: u16, want: u64) {
-    tell::case(
+    say::case(
         b"ring_need_event",
         bit(notify::ring_need_event(event, new, old)),
         want,

@@ -1,8 +1,7 @@
 // Lent chains: the check, and the two parts of both slices.
 ghost use Prim.Native.Nat.{_≤_};
-use crate::tell;
-use crate::tell::bit;
-use crate::tell::outcome;
+use crate::seen::outcome;
+use say::bit;
 
 // The first n of three addresses and the first m of three lengths.
 fn checked(n: usize, m: usize, readable: usize, want: u64) {
@@ -11,11 +10,11 @@ fn checked(n: usize, m: usize, readable: usize, want: u64) {
     let a = chain::addrs::readables(&addrs, n);
     let l = chain::lens::readables(&lens, m);
     let r = chain::check(a, l, readable);
-    tell::case(b"check", outcome(r, 0), want);
+    say::case(b"check", outcome(r, 0), want);
 }
 
 fn lengths(n: usize, m: usize, readable: usize, want: u64) {
-    tell::case(b"is_bad", bit(chain::is_bad(n, m, readable)), want);
+    say::case(b"is_bad", bit(chain::is_bad(n, m, readable)), want);
 }
 
 // How many of three elements the readable part has, and ten times the writable one, of addresses and of lengths.
@@ -26,7 +25,7 @@ fn parted(readable: usize, want: u64) {
     let b = few(chain::addrs::writables(&addrs, readable).len());
     let c = few(chain::lens::readables(&lens, readable).len());
     let d = few(chain::lens::writables(&lens, readable).len());
-    tell::case(b"parts", a + 10 * b + 100 * c + 1000 * d, want);
+    say::case(b"parts", a + 10 * b + 100 * c + 1000 * d, want);
 }
 
 fn few(n: usize) -> u64

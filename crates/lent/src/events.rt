@@ -1,45 +1,44 @@
 // The event area: its two words, and its four bytes.
-use crate::tell;
-use crate::tell::bit;
-use crate::tell::byte;
-use crate::tell::outcome;
+use crate::seen::byte;
+use crate::seen::outcome;
 use event::EventSuppression;
+use say::bit;
 
 // Offset, wrap and flags of two words: the flags' word behind a set_flags, 10 for each.
 fn seen(off_wrap: u16, flags: u16, want: u64) {
     let e = EventSuppression::new(off_wrap, flags);
     let low = 10 * bit(e.desc_event_wrap()) + e.flags() as u64;
-    tell::case(b"event", 100 * (e.desc_event_off() as u64) + low, want);
+    say::case(b"event", 100 * (e.desc_event_off() as u64) + low, want);
 }
 
 fn flagged(flags: u16, new: u16, want: u64) {
     let e = EventSuppression::new(65535, flags).set_flags(new);
     let kept = bit(e.off_wrap == 65535);
-    tell::case(b"set_flags", e.flags as u64 + 100000 * kept, want);
+    say::case(b"set_flags", e.flags as u64 + 100000 * kept, want);
 }
 
 fn armed(flags: u16, off: u16, wrap: bool, want: u64) {
     let e = EventSuppression::new(9, flags).set_desc_event(off, wrap);
     let kept = bit(e.flags == flags);
-    tell::case(b"set_desc_event", e.off_wrap as u64 + 100000 * kept, want);
+    say::case(b"set_desc_event", e.off_wrap as u64 + 100000 * kept, want);
 }
 
 // Six lent bytes, each 7: what a write at a place leaves at another.
 fn written(at: usize, look: usize, want: u64) {
     let mut ring = [7u8; 6];
     let r = EventSuppression::new(513, 1027).write(&mut ring, at);
-    tell::case(b"write", outcome(r, byte(&ring, look)), want);
+    say::case(b"write", outcome(r, byte(&ring, look)), want);
 }
 
 fn cleared(at: usize, look: usize, want: u64) {
     let mut ring = [7u8; 6];
     let r = EventSuppression::clear(&mut ring, at);
-    tell::case(b"clear", outcome(r, byte(&ring, look)), want);
+    say::case(b"clear", outcome(r, byte(&ring, look)), want);
 }
 
 fn read(at: usize, want: u64) {
     let ring = [7u8; 6];
-    tell::case(
+    say::case(
         b"read",
         EventSuppression::read(&ring, at).flags as u64,
         want,
@@ -49,7 +48,7 @@ fn read(at: usize, want: u64) {
 fn back(off_wrap: u16, flags: u16, want: u64) {
     let e = EventSuppression::decode(EventSuppression::new(off_wrap, flags).encode());
     let same = (e.off_wrap == off_wrap) & (e.flags == flags);
-    tell::case(b"decode", bit(same), want);
+    say::case(b"decode", bit(same), want);
 }
 
 // Flags in two bits, the offset in fifteen, the wrap above it.

@@ -2,8 +2,8 @@
 // last, what it should give: that number is the paper's, worked out by hand, and not taken from a run.
 mod chains;
 mod events;
+mod seen;
 mod slots;
-mod tell;
 
 fn main() {
     slots::encodings();

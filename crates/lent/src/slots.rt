@@ -1,11 +1,10 @@
 // Descriptors as bytes, slots of lent bytes, and the table.
-use crate::tell;
-use crate::tell::bit;
-use crate::tell::byte;
-use crate::tell::outcome;
+use crate::seen::byte;
+use crate::seen::outcome;
 use desc::DescAddr;
 use desc::DescTable;
 use desc::Descriptor;
+use say::bit;
 
 // A descriptor each of whose bytes is its place and one.
 fn counting() -> Descriptor {
@@ -14,50 +13,50 @@ fn counting() -> Descriptor {
 
 fn encoded(place: usize, want: u64) {
     let b = counting().encode();
-    tell::case(b"encode", byte(&b, place), want);
+    say::case(b"encode", byte(&b, place), want);
 }
 
 // 1 where all four fields come back.
 fn back(addr: u64, len: u32, id: u16, flags: u16, want: u64) {
     let d = Descriptor::decode(Descriptor::new(addr, len, id, flags).encode());
     let same = (d.addr == addr) & ((d.len == len) & ((d.id == id) & (d.flags == flags)));
-    tell::case(b"decode", bit(same), want);
+    say::case(b"decode", bit(same), want);
 }
 
 // Thirty-three lent bytes, each 7: what a store at a place leaves at another.
 fn stored(at: usize, look: usize, want: u64) {
     let mut ring = [7u8; 33];
     let r = desc::store(&mut ring, at, counting().encode());
-    tell::case(b"store", outcome(r, byte(&ring, look)), want);
+    say::case(b"store", outcome(r, byte(&ring, look)), want);
 }
 
 fn loaded(at: usize, want: u64) {
     let ring = [255u8; 33];
     let d = Descriptor::decode(desc::load(&ring, at));
-    tell::case(b"load", d.addr, want);
+    say::case(b"load", d.addr, want);
 }
 
 fn cleared(base: usize, len: usize, look: usize, want: u64) {
     let mut ring = [7u8; 33];
     let r = DescTable::from_raw_parts(base, len).clear(&mut ring);
-    tell::case(b"clear", outcome(r, byte(&ring, look)), want);
+    say::case(b"clear", outcome(r, byte(&ring, look)), want);
 }
 
 // The slot's place, or 777.
 fn placed(base: usize, len: usize, idx: u16, want: u64) {
     match DescTable::from_raw_parts(base, len).desc_addr(idx) {
-        DescAddr::At(p) => tell::case(b"desc_addr", p as u64, want),
-        DescAddr::Nowhere => tell::case(b"desc_addr", 777, want),
+        DescAddr::At(p) => say::case(b"desc_addr", p as u64, want),
+        DescAddr::Nowhere => say::case(b"desc_addr", 777, want),
     }
 }
 
 // What a table says of itself.
 fn described(base: usize, len: usize, empty: u64) {
     let t = DescTable::from_raw_parts(base, len);
-    tell::case(b"len", t.len() as u64, len as u64);
-    tell::case(b"base_addr", t.base_addr() as u64, base as u64);
-    tell::case(b"is_empty", bit(t.is_empty()), empty);
-    tell::case(b"default_len", DescTable::default_len() as u64, 256);
+    say::case(b"len", t.len() as u64, len as u64);
+    say::case(b"base_addr", t.base_addr() as u64, base as u64);
+    say::case(b"is_empty", bit(t.is_empty()), empty);
+    say::case(b"default_len", DescTable::default_len() as u64, 256);
 }
 
 // Sixteen bytes, the lowest first in each field; and back, at the edges of every width.

@@ -1,19 +1,11 @@
-// A line is a ring's size, the case, and what a call answered.
+// What `worth` prints: a line is a ring's size, the case, and what a call of an end answered.
 use base::RingError;
 use consumer::PolledChain;
 use cursor::RingCursor;
-use libc::STDOUT_FILENO;
 use ring::AskedCount;
 use ring::AskedCursor;
-
-pub fn words(w: &[u8]) {
-    io::write_all(STDOUT_FILENO, w);
-}
-
-fn number(before: &[u8], n: u64) {
-    words(before);
-    io::print_decimal(STDOUT_FILENO, n);
-}
+use say::number;
+use say::words;
 
 // "size 4, CASE:", the size as the ring itself says it.
 pub fn case(size: AskedCount, name: &[u8]) {
@@ -68,9 +60,5 @@ pub fn cursor(asked: AskedCursor) {
 
 fn at(c: RingCursor) {
     number(b", cursor ", c.head() as u64);
-    if c.wrap() {
-        words(b" 1");
-    } else {
-        words(b" 0");
-    }
+    say::either(c.wrap(), b" 1", b" 0");
 }

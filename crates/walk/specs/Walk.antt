@@ -1,4 +1,4 @@
--- The chain at a cursor (document 01, "What each end does", Consumer).
+-- The chain at a cursor (document 01, "What each end does", Consumer; VIRTIO 1.1, 2.7.5 and 2.7.6).
 use Prim.Native.Nat.{ℕ, zero, suc, _+_}
 use mathlib.Core.List.{List, [], _∷_}
 use mathlib.Core.Bool.{Bool, true, false, cond, not, _||_, _&&_}
@@ -9,7 +9,7 @@ use Rattle.desc.specs.Flags.{NEXT, WRITE, INDIRECT, has}
 use Rattle.ring.specs.Slots.{slotOf}
 use Rattle.walk.specs.declared.Walk.{Walk}
 
--- before the head is looked at
+-- before the head is looked at: nothing is counted, and there is more
 abbrev pub start : RingCursor → Walk
 start c = record { at = c; count = 0; readable = 0; more = true; writing = false; bad = false }
 
@@ -17,7 +17,8 @@ start c = record { at = c; count = 0; readable = 0; more = true; writing = false
 abbrev pub spoilt : Walk → Descriptor → Bool
 spoilt w d = has (d .flags) INDIRECT || (not (has (d .flags) WRITE) && w .writing)
 
--- one slot is looked at, of which NEXT, WRITE and INDIRECT count: "Tail IDs and tail AVAIL/USED bits are not looked at."
+-- one slot is looked at, of which NEXT, WRITE and INDIRECT count: "Tail IDs and tail AVAIL/USED bits are not looked at." A slot
+-- that is not WRITE is readable, and a bad one ends the walk
 unfoldable pub lookOf : ℕ → Walk → Descriptor → Walk
 lookOf size w d =
     record {

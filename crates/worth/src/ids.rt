@@ -38,7 +38,7 @@ fn next(p: RingProducer, ids: &[u16], counts: &[u16]) {
         NextId::Id(id) => tell::id(id),
         NextId::Refused(e) => tell::refused(e),
     }
-    tell::words(b"\n");
+    say::words(b"\n");
 }
 
 // One element submitted: the record is handed on, after a refusal too.

@@ -25,7 +25,7 @@ fn producer_at(size: u16, ring: &[u8], ids: &mut [u16], counts: &mut [u16]) {
         producer::Opened::Ring(p) => tell::opened(p.len()),
         producer::Opened::Refused(e) => tell::refused(e),
     }
-    tell::words(b"\n");
+    say::words(b"\n");
 }
 
 fn consumer_at(size: u16, ring: &[u8], counts: &mut [u16]) {
@@ -35,5 +35,5 @@ fn consumer_at(size: u16, ring: &[u8], counts: &mut [u16]) {
         consumer::Opened::Ring(c) => tell::opened(c.len()),
         consumer::Opened::Refused(e) => tell::refused(e),
     }
-    tell::words(b"\n");
+    say::words(b"\n");
 }

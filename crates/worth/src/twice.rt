@@ -60,7 +60,7 @@ fn complete(
     tell::case(c.len(), name);
     match c.submit_used(ring, held, id, 5) {
         Answered::Done(c) => {
-            tell::words(b" done");
+            say::words(b" done");
             tell::cursor(c.used_cursor());
             c
         }

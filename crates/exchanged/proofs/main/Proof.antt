@@ -1,81 +1,54 @@
--- `exchanged::main` is safe and ends: 170 records of 24 bytes fit the buffer.
+-- `exchanged::main` is safe and ends: what was read is whole in the buffer.
 -- Assumes nothing.
 use borrow.Author.Needs.{needs}
-use Prim.Native.Nat.{_≤_, _-_}
-use mathlib.Core.Path.{_≡_}
-use lib.ListN.{length}
 use Rattle.exchanged.proofs.main.Statement.{statement}
 use Rattle.exchanged.proofs.main.Tie as tie
 
-abbrev Inv-loop : tie.InvT-loop
-Inv-loop input ring₀ twin₀ counts₀ c₀ n i₀ ring twin counts c i = (i ≤ 170) × (length input ≡ 4096) × (length ring ≡ 264) × (length twin ≡ 264) × (length counts ≡ 16)
-
-abbrev μ-loop : tie.MeasureT-loop
-μ-loop input ring₀ twin₀ counts₀ c₀ n i₀ ring twin counts c i = 170 - i
-
-buffer-requires : tie.Need-buffer-requires Inv-loop μ-loop
+buffer-requires : tie.Need-buffer-requires
 buffer-requires c κs = search needs
 
-closed-requires : tie.Need-closed-requires Inv-loop μ-loop
-closed-requires c κs = search needs
-
-slice-aggregate-read-full : tie.Need-slice-aggregate-read-full Inv-loop μ-loop
+slice-aggregate-read-full : tie.Need-slice-aggregate-read-full
 slice-aggregate-read-full c = search needs
 
-read-full-requires : tie.Need-read-full-requires Inv-loop μ-loop
+read-full-requires : tie.Need-read-full-requires
 read-full-requires c κs = search needs
 
-loop-holds : tie.Need-loop-holds Inv-loop μ-loop
-loop-holds c = search needs
+slice-aggregate-are-known : tie.Need-slice-aggregate-are-known
+slice-aggregate-are-known c = search needs
 
-slice-aggregate-turn : tie.Need-slice-aggregate-turn Inv-loop μ-loop
-slice-aggregate-turn c = search needs
+are-known-requires : tie.Need-are-known-requires
+are-known-requires c κs = search needs
 
-mul-turn : tie.Need-mul-turn Inv-loop μ-loop
-mul-turn c = search needs
+slice-aggregate-words : tie.Need-slice-aggregate-words
+slice-aggregate-words c = search needs
 
-slice-aggregate-turn-2 : tie.Need-slice-aggregate-turn-2 Inv-loop μ-loop
-slice-aggregate-turn-2 c = search needs
+words-requires : tie.Need-words-requires
+words-requires c κs = search needs
 
-slice-aggregate-turn-3 : tie.Need-slice-aggregate-turn-3 Inv-loop μ-loop
-slice-aggregate-turn-3 c = search needs
+slice-aggregate-run : tie.Need-slice-aggregate-run
+slice-aggregate-run c = search needs
 
-slice-aggregate-turn-4 : tie.Need-slice-aggregate-turn-4 Inv-loop μ-loop
-slice-aggregate-turn-4 c = search needs
+run-requires : tie.Need-run-requires
+run-requires c κs = search needs
 
-turn-requires : tie.Need-turn-requires Inv-loop μ-loop
-turn-requires c κs = search needs
-
-add-i : tie.Need-add-i Inv-loop μ-loop
-add-i c = search needs
-
-loop-less : tie.Need-loop-less Inv-loop μ-loop
-loop-less c = search needs
-
-loop-again : tie.Need-loop-again Inv-loop μ-loop
-loop-again c = search needs
-
-returns : tie.Need-returns Inv-loop μ-loop
+returns : tie.Need-returns
 returns c = search needs
+
+returns-2 : tie.Need-returns-2
+returns-2 c = search needs
 
 pub main-spec : {M : Type 1} → statement M
 main-spec =
     tie.close
     (tie.spec
-    Inv-loop
-    μ-loop
     buffer-requires
-    closed-requires
     slice-aggregate-read-full
     read-full-requires
-    loop-holds
-    slice-aggregate-turn
-    mul-turn
-    slice-aggregate-turn-2
-    slice-aggregate-turn-3
-    slice-aggregate-turn-4
-    turn-requires
-    add-i
-    loop-less
-    loop-again
-    returns)
+    slice-aggregate-are-known
+    are-known-requires
+    slice-aggregate-words
+    words-requires
+    slice-aggregate-run
+    run-requires
+    returns
+    returns-2)

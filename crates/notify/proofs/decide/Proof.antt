@@ -1,13 +1,14 @@
 -- `notify::decide` meets its contract: each exit by the tests that led to it.
 -- Assumes nothing.
 use borrow.Author.Needs.{needs}
-use mathlib.Core.Path.{_≡_, sym, ap, ap₂, _∙_}
-use mathlib.Core.Bool.{Bool, true, false, not, _||_}
+use mathlib.Core.Path.{sym, ap, ap₂, _∙_}
+use mathlib.Core.Bool.{not, _||_}
 use lib.Dec.{leb, eqb}
-use borrow.Author.Tests.{eq-eqb, ne-eqb}
+use borrow.Author.Tests.{ne-eqb}
 use Prim.Native.Nat.{ℕ}
-use Rattle.event.specs.Event.{ENABLE, DISABLE, DESC, flagsOf, offOf}
+use Rattle.event.specs.Event.{ENABLE, DISABLE, DESC, flagsOf}
 use Rattle.notify.specs.Notify.{needEvent, notifyOf}
+use Rattle.notify.proofs.Laws.{notify-off, notify-on}
 use Rattle.notify.proofs.decide.Statement.{statement}
 use Rattle.notify.proofs.decide.Tie as tie
 
@@ -18,18 +19,14 @@ desc-event-off-requires : tie.Need-desc-event-off-requires
 desc-event-off-requires c κs = search needs
 
 returns : tie.Need-returns
-unfolding notifyOf
-returns c = let a = c .before .before .before .args in simp (eq-eqb (flagsOf (a .evt)) DISABLE (sym (c .before .before .flags .ensures) ∙ c .if1 .taken))
+returns c =
+    let a = c .before .before .before .args in
+    sym (notify-off (a .evt) (a .ring-len) (a .old) (a .new) (sym (c .before .before .flags .ensures) ∙ c .if1 .taken))
 
 returns-2 : tie.Need-returns-2
-unfolding notifyOf
 returns-2 c =
     let a = c .before .before .before .before .args in
-    let f = c .before .before .before .flags .ensures in
-    simp (
-      ne-eqb (flagsOf (a .evt)) DISABLE (λ e. c .before .if1 .left (f ∙ e)),
-      eq-eqb (flagsOf (a .evt)) ENABLE (sym f ∙ c .if2 .taken),
-    )
+    sym (notify-on (a .evt) (a .ring-len) (a .old) (a .new) (sym (c .before .before .before .flags .ensures) ∙ c .if2 .taken))
 
 returns-3 : tie.Need-returns-3
 unfolding notifyOf

@@ -8,7 +8,8 @@ use Prim.Native.Nat.{ℕ, _+_, _-_, _≤_}
 use mathlib.Core.Path.{_≡_, refl, sym, ap, ap₂, _∙_}
 use mathlib.Core.List.{List}
 use lib.ListN.{length, drop, getD}
-use Rattle.undo.specs.Undo.{outcome}
+use Rattle.base.specs.Answer.{Answer}
+use Rattle.undo.specs.Undo.{outcome, sumOf}
 use Rattle.undo.proofs.Marks.{flip, unmarked, unmark-marked, unmark-more, unmark-none, walked, goes, walk-more, walk-stopped, walk-through}
 use Rattle.undo.proofs.Laws.{sum-walked}
 use Rattle.undo.proofs.walk.Statement.{statement}
@@ -130,18 +131,30 @@ loop2-again c =
 same-length : tie.Need-same-length Inv-loop μ-loop Inv-loop2 μ-loop2
 same-length c = c .before .before .loop2 .inv .0 ∙ c .before .before .before .before .before .before .loop .inv .0
 
-returns : tie.Need-returns Inv-loop μ-loop Inv-loop2 μ-loop2
-returns c =
-    let g = c .before .before .loop2 in
-    let b = c .before .before .before in
-    let h = b .before .before .before .loop in
-    let e = b .before .before .before .before .before .before in
+-- behind both loops: the table is as it was at entry, and the answer is that of the walk from where the first one stopped
+ended :
+    (c : tie.After-loop2 Inv-loop μ-loop Inv-loop2 μ-loop2) {x : Answer}
+    → let h = c .before .before .before .before .before .loop in
+    let a = c .before .before .before .before .before .before .before .before .args in
+    walked (a .size) (a .most) (h .counts) (h .left) (drop (h .k) (a .ids .now)) ≡ x
+    → outcome x (c .before .loop2 .counts) ≡ outcome (sumOf (a .size) (a .most) (a .counts .now) (a .ids .now)) (a .counts .now)
+ended c w =
+    let g = c .before .loop2 in
+    let h = c .before .before .before .before .before .loop in
+    let e = c .before .before .before .before .before .before .before .before in
     let a = e .args in
     ap₂ outcome
     (sym (sum-walked (a .size) (a .most) (a .counts .now) (a .ids .now) (e .pre .0) (e .pre .1 .0) (e .pre .1 .1)
     ∙ sym (h .inv .1 .1 .0)
-    ∙ walk-stopped (a .size) (a .most) (h .counts) (h .left) (a .ids .now) (h .k) _ (b .before .stops .ensures) (b .if1 .left) (c .if2 .taken)))
+    ∙ w))
     (sym (unmark-none (g .counts) (a .ids .now) (g .j) (omega arith)) ∙ g .inv .1 ∙ h .inv .1 .1 .1)
+
+returns : tie.Need-returns Inv-loop μ-loop Inv-loop2 μ-loop2
+returns c =
+    let b = c .before .before .before in
+    let h = b .before .before .before .loop in
+    let a = b .before .before .before .before .before .before .args in
+    ended (c .before) (walk-stopped (a .size) (a .most) (h .counts) (h .left) (a .ids .now) (h .k) _ (b .before .stops .ensures) (b .if1 .left) (c .if2 .taken))
 
 sub-t28 : tie.Need-sub-t28 Inv-loop μ-loop Inv-loop2 μ-loop2
 sub-t28 c = omega arith
@@ -151,16 +164,10 @@ same-length-2 c = c .before .before .loop2 .inv .0 ∙ c .before .before .before
 
 returns-2 : tie.Need-returns-2 Inv-loop μ-loop Inv-loop2 μ-loop2
 returns-2 c =
-    let g = c .before .before .loop2 in
     let b = c .before .before .before in
     let h = b .before .before .before .loop in
-    let e = b .before .before .before .before .before .before in
-    let a = e .args in
-    ap₂ outcome
-    (sym (sum-walked (a .size) (a .most) (a .counts .now) (a .ids .now) (e .pre .0) (e .pre .1 .0) (e .pre .1 .1)
-    ∙ sym (h .inv .1 .1 .0)
-    ∙ walk-through (a .size) (a .most) (h .counts) (h .left) (a .ids .now) (h .k) (c .if2 .left)))
-    (sym (unmark-none (g .counts) (a .ids .now) (g .j) (omega arith)) ∙ g .inv .1 ∙ h .inv .1 .1 .1)
+    let a = b .before .before .before .before .before .before .args in
+    ended (c .before) (walk-through (a .size) (a .most) (h .counts) (h .left) (a .ids .now) (h .k) (c .if2 .left))
 
 pub walk-spec : {M : Type 1} → statement M
 walk-spec =

@@ -2,6 +2,9 @@
 -- Assumes nothing.
 use borrow.Author.Needs.{needs}
 use native.Mathlib.Omega.{arith}
+use Prim.Native.Nat.{_+_}
+use mathlib.Core.Path.{ap, _∙_}
+use mathlib.Core.Bool.{Bool, cond, not, _&&_, _||_}
 use Rattle.walk.specs.Walk.{lookOf}
 use Rattle.walk.proofs.Laws.{one-or-none}
 use Rattle.walk.proofs.look.Statement.{statement}
@@ -30,7 +33,19 @@ is-next-requires c κs = search needs
 
 returns : tie.Need-returns
 unfolding lookOf
-returns c = cc
+returns c =
+    let a = c .before .before .before .before .before .before .before .before .before .args in
+    let write = c .before .before .before .before .before .before .before .before .is-writable .ensures in
+    let indirect = c .before .before .before .before .before .before .before .is-indirect .ensures in
+    let read = c .before .before .before .pick16 .ensures ∙ ap (λ (b : Bool). cond b 0 1) write in
+    λ i. record {
+      at = c .before .before .before .before .before .stepped .ensures i;
+      count = a .w .count + 1;
+      readable = a .w .readable + read i;
+      more = c .before .is-next .ensures i && not (indirect i || (not (write i) && a .w .writing));
+      writing = write i || a .w .writing;
+      bad = indirect i || (not (write i) && a .w .writing);
+    }
 
 pub look-spec : {M : Type 1} → statement M
 look-spec =

@@ -1,7 +1,7 @@
 -- `base::bytes::put` meets its contract: the test is the definition's, and `copy` says what it wrote.
 -- Assumes nothing.
 use borrow.Author.Needs.{needs}
-use Prim.Native.Nat.{ℕ, _+_, _≤_, _<_}
+use Prim.Native.Nat.{_+_, _≤_, _<_}
 use mathlib.Core.Path.{sym, ap, _∙_}
 use mathlib.Core.List.{[]}
 use borrow.Author.Tests.{leb-true, leb-false}

@@ -1,7 +1,6 @@
 -- `cursor::RingCursor::advance` meets its contract: a single step is a move by one.
 -- Assumes nothing.
 use borrow.Author.Needs.{needs}
-use Prim.Native.Nat.{ℕ}
 use mathlib.Core.Path.{sym, ap, _∙_}
 use Rattle.base.specs.Answer.{done}
 use Rattle.cursor.specs.declared.RingCursor.{RingCursor}

@@ -1,7 +1,7 @@
 -- `cursor::RingCursor::divided` meets its contract: the sum is less than twice the size, so it wraps once or not at all.
 -- Assumes nothing.
 use Prim.Native.Nat.{ℕ, _+_, _-_, _*_, _/_, _%_, _≤_, _<_}
-use mathlib.Core.Path.{_≡_, sym, ap, ap₂, _∙_}
+use mathlib.Core.Path.{_≡_, sym, ap, _∙_}
 use mathlib.Core.Bool.{not}
 use native.Mathlib.Omega.{arith}
 use lib.Arith.{digits-div, digits-mod}

@@ -2,7 +2,8 @@
 -- Assumes nothing.
 use borrow.Author.Needs.{needs}
 use native.Mathlib.Omega.{arith}
-use Rattle.desc.specs.Desc.{markAvail}
+use Prim.Native.Nat.{_+_}
+use Rattle.desc.specs.Desc.{descriptor, markAvail}
 use Rattle.desc.proofs.Flags.{avail-fits}
 use Rattle.desc.proofs.Descriptor.mark_avail.Statement.{statement}
 use Rattle.desc.proofs.Descriptor.mark_avail.Tie as tie
@@ -18,7 +19,9 @@ add-t5 c = let a = c .before .before .args in omega (arith, avail-fits (a .self 
 
 returns : tie.Need-returns
 unfolding markAvail
-returns c = cc
+returns c =
+    let d = c .before .before .args .self in
+    λ i. descriptor (d .addr) (d .len) (d .id) (c .before .unmarked .ensures i + c .pick16 .ensures i)
 
 pub mark-avail-spec : {M : Type 1} → statement M
 mark-avail-spec = tie.close (tie.spec unmarked-requires pick16-requires add-t5 returns)

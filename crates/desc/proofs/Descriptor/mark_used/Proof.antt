@@ -2,7 +2,8 @@
 -- Assumes nothing.
 use borrow.Author.Needs.{needs}
 use native.Mathlib.Omega.{arith}
-use Rattle.desc.specs.Desc.{markUsed}
+use Prim.Native.Nat.{_+_}
+use Rattle.desc.specs.Desc.{descriptor, markUsed}
 use Rattle.desc.proofs.Flags.{used-fits}
 use Rattle.desc.proofs.Descriptor.mark_used.Statement.{statement}
 use Rattle.desc.proofs.Descriptor.mark_used.Tie as tie
@@ -21,7 +22,9 @@ add-t6 c = let a = c .before .before .args in omega (arith, used-fits (a .self .
 
 returns : tie.Need-returns
 unfolding markUsed
-returns c = cc
+returns c =
+    let d = c .before .before .args .self in
+    λ i. descriptor (d .addr) (d .len) (d .id) (c .before .unmarked .ensures i + c .pick16 .ensures i)
 
 pub mark-used-spec : {M : Type 1} → statement M
 mark-used-spec = tie.close (tie.spec unmarked-requires add-pick16 pick16-requires add-t6 returns)

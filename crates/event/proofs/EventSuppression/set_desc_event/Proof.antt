@@ -3,8 +3,9 @@
 use borrow.Author.Needs.{needs}
 use native.Mathlib.Omega.{arith}
 use Prim.Native.Nat.{ℕ, _+_, _%_, _<_}
+use mathlib.Core.Path.{_≡_, ap}
 use mathlib.Core.Bool.{Bool, true, false, cond}
-use Rattle.event.specs.Event.{setDescEvent}
+use Rattle.event.specs.Event.{event, setDescEvent}
 use Rattle.event.proofs.EventSuppression.set_desc_event.Statement.{statement}
 use Rattle.event.proofs.EventSuppression.set_desc_event.Tie as tie
 
@@ -20,7 +21,10 @@ add-t6 c = let a = c .before .args in omega (arith, off-fits (a .off) (a .wrap))
 
 returns : tie.Need-returns
 unfolding setDescEvent
-returns c = cc
+returns c =
+    let a = c .before .args in
+    let wrap : _≡_ {A = ℕ} (c .pick16 .result) (cond (a .wrap) 32768 0) = c .pick16 .ensures in
+    ap (λ (x : ℕ). event (a .off % 32768 + x) (a .self .flags)) wrap
 
 pub set-desc-event-spec : {M : Type 1} → statement M
 set-desc-event-spec = tie.close (tie.spec pick16-requires add-t6 returns)

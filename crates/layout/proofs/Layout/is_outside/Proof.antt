@@ -1,7 +1,11 @@
 -- `layout::Layout::is_outside` meets its contract: the comparisons are the definition's.
 -- Assumes nothing.
 use borrow.Author.Needs.{needs}
-use Rattle.layout.specs.Layout.{outside}
+use Prim.Native.Nat.{_+_}
+use mathlib.Core.Path.{_≡_}
+use mathlib.Core.Bool.{not, _||_}
+use lib.Dec.{leb}
+use Rattle.layout.specs.Layout.{tableBytes, outside}
 use Rattle.layout.proofs.Layout.is_outside.Statement.{statement}
 use Rattle.layout.proofs.Layout.is_outside.Tie as tie
 
@@ -22,7 +26,13 @@ ends-by-requires-3 c κs = search needs
 
 returns : tie.Need-returns
 unfolding outside
-returns c = cc
+returns c =
+    let a = c .before .before .before .before .args in
+    let l = a .self in
+    let table : c .before .before .ends-by .result ≡ leb (l .table + tableBytes l) (a .bytes) = c .before .before .ends-by .ensures in
+    let driver : c .before .ends-by2 .result ≡ leb (l .driver + 4) (a .bytes) = c .before .ends-by2 .ensures in
+    let device : c .ends-by3 .result ≡ leb (l .device + 4) (a .bytes) = c .ends-by3 .ensures in
+    λ i. not (table i) || (not (driver i) || not (device i))
 
 pub is-outside-spec : {M : Type 1} → statement M
 is-outside-spec =
