@@ -66,7 +66,11 @@ of-bytes i n s =
     let e : i + s .place .1 ≡ i * 1 + s .place .1 = omega arith in
     λ j. slice (s .place .0, e j) (take n (drop i (s .elements)))
 
--- the elements from n on
+-- the first n elements, and those from n on
+pub first-elements : (w n : ℕ) (s : Slice) → firstOf w n s .elements ≡ take n (s .elements)
+unfolding firstOf
+first-elements w n s = refl
+
 pub from-elements : (w n : ℕ) (s : Slice) → fromOf w n s .elements ≡ drop n (s .elements)
 unfolding fromOf
 from-elements w n s =
