@@ -39,6 +39,7 @@ use Rattle.format.proofs.lend.read.Reads as lend-read
 use Rattle.format.proofs.header.read.Reads as header-read
 use Rattle.format.proofs.header.seed.Reads as header-seed
 use Rattle.format.proofs.header.geometry.Reads as header-geometry
+use Rattle.format.proofs.form.length.Reads as form-length
 
 pub part-cut-fixed : Determined part-cut.Post (λ r s. r)
 part-cut-fixed = by-equation _ _ _ (λ κ a r s p. p)
@@ -144,3 +145,6 @@ header-seed-fixed = by-equation _ _ _ (λ κ a r s p. p)
 
 pub header-geometry-fixed : Determined header-geometry.Post (λ r s. r)
 header-geometry-fixed = by-equation _ _ _ (λ κ a r s p. p)
+
+pub form-length-fixed : Determined form-length.Post (λ r s. r)
+form-length-fixed = by-equation _ _ _ (λ κ a r s p. p)

@@ -2,4 +2,5 @@ pub mod Parts
 pub mod Reading
 pub mod Filling
 pub mod Headers
+pub mod Forms
 pub mod Fixed

@@ -3,3 +3,4 @@ pub mod Input
 pub mod Forge
 pub mod Header
 pub mod Lend
+pub mod Form
