@@ -1,7 +1,6 @@
 -- `format::fill::longs` meets its contract. The loop's invariant: the first k entries are filled.
 -- Assumes nothing.
 use native.Mathlib.Omega.{arith}
-use borrow.Author.Needs.{needs}
 use Prim.Native.Nat.{ℕ, _-_, _≤_}
 use lib.ListN.{replicate, length-replicate, getD-replicate}
 use Rattle.format.proofs.Filling.{Filled, fill-none, fill-next, fill-all}
@@ -21,7 +20,7 @@ cast-set64 : tie.Need-cast-set64 Inv-loop μ-loop
 cast-set64 c = omega arith
 
 set64-requires : tie.Need-set64-requires Inv-loop μ-loop
-set64-requires c κs = search needs
+set64-requires c κs = tt
 
 add-k : tie.Need-add-k Inv-loop μ-loop
 add-k c = omega arith

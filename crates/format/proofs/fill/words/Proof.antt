@@ -1,7 +1,6 @@
 -- `format::fill::words` meets its contract. The loop's invariant: the first k entries are filled.
 -- Assumes nothing.
 use native.Mathlib.Omega.{arith}
-use borrow.Author.Needs.{needs}
 use Prim.Native.Nat.{ℕ, _-_, _≤_}
 use lib.ListN.{replicate, length-replicate, getD-replicate}
 use Rattle.format.proofs.Filling.{Filled, fill-none, fill-next, fill-all}
@@ -21,7 +20,7 @@ cast-set32 : tie.Need-cast-set32 Inv-loop μ-loop
 cast-set32 c = omega arith
 
 set32-requires : tie.Need-set32-requires Inv-loop μ-loop
-set32-requires c κs = search needs
+set32-requires c κs = tt
 
 add-k : tie.Need-add-k Inv-loop μ-loop
 add-k c = omega arith

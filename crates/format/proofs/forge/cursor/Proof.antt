@@ -1,6 +1,5 @@
 -- `format::forge::cursor` meets its contract, field by field.
 -- Assumes nothing.
-use borrow.Author.Needs.{needs}
 use mathlib.Core.Path.{ap₂}
 use Rattle.cursor.specs.Cursor.{at}
 use Rattle.format.specs.Forge.{cursorOf}
@@ -8,10 +7,10 @@ use Rattle.format.proofs.forge.cursor.Statement.{statement}
 use Rattle.format.proofs.forge.cursor.Tie as tie
 
 half-requires : tie.Need-half-requires
-half-requires c κs = search needs
+half-requires c κs = tt
 
 bit-requires : tie.Need-bit-requires
-bit-requires c κs = search needs
+bit-requires c κs = tt
 
 returns : tie.Need-returns
 unfolding cursorOf

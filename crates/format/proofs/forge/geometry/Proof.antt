@@ -1,22 +1,21 @@
 -- `format::forge::geometry` meets its contract, field by field.
 -- Assumes nothing.
-use borrow.Author.Needs.{needs}
 use Rattle.layout.specs.Layout.{layout}
 use Rattle.format.specs.Forge.{geometryOf}
 use Rattle.format.proofs.forge.geometry.Statement.{statement}
 use Rattle.format.proofs.forge.geometry.Tie as tie
 
 place-requires : tie.Need-place-requires
-place-requires c κs = search needs
+place-requires c κs = tt
 
 place-requires-2 : tie.Need-place-requires-2
-place-requires-2 c κs = search needs
+place-requires-2 c κs = tt
 
 place-requires-3 : tie.Need-place-requires-3
-place-requires-3 c κs = search needs
+place-requires-3 c κs = tt
 
 half-requires : tie.Need-half-requires
-half-requires c κs = search needs
+half-requires c κs = tt
 
 returns : tie.Need-returns
 unfolding geometryOf

@@ -1,6 +1,5 @@
 -- `format::forge::half` meets its contract: the pick is the definition's.
 -- Assumes nothing.
-use borrow.Author.Needs.{needs}
 use Prim.Native.Nat.{ℕ}
 use mathlib.Core.Path.{ap, _∙_}
 use mathlib.Core.Bool.{cond}
@@ -9,10 +8,10 @@ use Rattle.format.proofs.forge.half.Statement.{statement}
 use Rattle.format.proofs.forge.half.Tie as tie
 
 low16-requires : tie.Need-low16-requires
-low16-requires c κs = search needs
+low16-requires c κs = tt
 
 pick16-requires : tie.Need-pick16-requires
-pick16-requires c κs = search needs
+pick16-requires c κs = tt
 
 returns : tie.Need-returns
 returns c =

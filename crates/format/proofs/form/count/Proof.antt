@@ -1,6 +1,5 @@
 -- `format::form::count` meets its contract: the pick is the definition's.
 -- Assumes nothing.
-use borrow.Author.Needs.{needs}
 use Prim.Native.Nat.{ℕ}
 use mathlib.Core.Path.{ap, _∙_}
 use mathlib.Core.Bool.{cond}
@@ -8,10 +7,10 @@ use Rattle.format.proofs.form.count.Statement.{statement}
 use Rattle.format.proofs.form.count.Tie as tie
 
 half-requires : tie.Need-half-requires
-half-requires c κs = search needs
+half-requires c κs = tt
 
 pick16-requires : tie.Need-pick16-requires
-pick16-requires c κs = search needs
+pick16-requires c κs = tt
 
 returns : tie.Need-returns
 returns c =

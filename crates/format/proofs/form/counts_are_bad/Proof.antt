@@ -8,19 +8,19 @@ use Rattle.format.proofs.form.counts_are_bad.Statement.{statement}
 use Rattle.format.proofs.form.counts_are_bad.Tie as tie
 
 is-no-count-requires : tie.Need-is-no-count-requires
-is-no-count-requires c κs = search needs
+is-no-count-requires c κs = tt
 
 is-no-count-requires-2 : tie.Need-is-no-count-requires-2
-is-no-count-requires-2 c κs = search needs
+is-no-count-requires-2 c κs = tt
 
 is-no-count-requires-3 : tie.Need-is-no-count-requires-3
-is-no-count-requires-3 c κs = search needs
+is-no-count-requires-3 c κs = tt
 
 is-no-count-requires-4 : tie.Need-is-no-count-requires-4
-is-no-count-requires-4 c κs = search needs
+is-no-count-requires-4 c κs = tt
 
 is-no-count-requires-5 : tie.Need-is-no-count-requires-5
-is-no-count-requires-5 c κs = search needs
+is-no-count-requires-5 c κs = tt
 
 returns : tie.Need-returns
 returns c =

@@ -8,31 +8,31 @@ use Rattle.format.proofs.form.flags_are_bad.Statement.{statement}
 use Rattle.format.proofs.form.flags_are_bad.Tie as tie
 
 is-no-flag-requires : tie.Need-is-no-flag-requires
-is-no-flag-requires c κs = search needs
+is-no-flag-requires c κs = tt
 
 is-no-flag-requires-2 : tie.Need-is-no-flag-requires-2
-is-no-flag-requires-2 c κs = search needs
+is-no-flag-requires-2 c κs = tt
 
 is-no-flag-requires-3 : tie.Need-is-no-flag-requires-3
-is-no-flag-requires-3 c κs = search needs
+is-no-flag-requires-3 c κs = tt
 
 is-no-flag-requires-4 : tie.Need-is-no-flag-requires-4
-is-no-flag-requires-4 c κs = search needs
+is-no-flag-requires-4 c κs = tt
 
 is-no-flag-requires-5 : tie.Need-is-no-flag-requires-5
-is-no-flag-requires-5 c κs = search needs
+is-no-flag-requires-5 c κs = tt
 
 is-no-flag-requires-6 : tie.Need-is-no-flag-requires-6
-is-no-flag-requires-6 c κs = search needs
+is-no-flag-requires-6 c κs = tt
 
 is-no-flag-requires-7 : tie.Need-is-no-flag-requires-7
-is-no-flag-requires-7 c κs = search needs
+is-no-flag-requires-7 c κs = tt
 
 is-no-flag-requires-8 : tie.Need-is-no-flag-requires-8
-is-no-flag-requires-8 c κs = search needs
+is-no-flag-requires-8 c κs = tt
 
 is-no-flag-requires-9 : tie.Need-is-no-flag-requires-9
-is-no-flag-requires-9 c κs = search needs
+is-no-flag-requires-9 c κs = tt
 
 returns : tie.Need-returns
 returns c =

@@ -1,6 +1,5 @@
 -- `format::form::is_no_count` meets its contract: the number there, tested.
 -- Assumes nothing.
-use borrow.Author.Needs.{needs}
 use Prim.Native.Nat.{ℕ}
 use mathlib.Core.Path.{ap}
 use mathlib.Core.Bool.{_&&_}
@@ -9,7 +8,7 @@ use Rattle.format.proofs.form.is_no_count.Statement.{statement}
 use Rattle.format.proofs.form.is_no_count.Tie as tie
 
 half-requires : tie.Need-half-requires
-half-requires c κs = search needs
+half-requires c κs = tt
 
 returns : tie.Need-returns
 returns c = ap (λ (x : ℕ). c .before .before .args .has && ltb 4096 x) (c .half .ensures)

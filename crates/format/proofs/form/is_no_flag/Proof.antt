@@ -1,6 +1,5 @@
 -- `format::form::is_no_flag` meets its contract: the byte there, tested.
 -- Assumes nothing.
-use borrow.Author.Needs.{needs}
 use Prim.Native.Nat.{ℕ}
 use mathlib.Core.Path.{ap}
 use mathlib.Core.Bool.{_&&_}
@@ -9,7 +8,7 @@ use Rattle.format.proofs.form.is_no_flag.Statement.{statement}
 use Rattle.format.proofs.form.is_no_flag.Tie as tie
 
 byte-requires : tie.Need-byte-requires
-byte-requires c κs = search needs
+byte-requires c κs = tt
 
 returns : tie.Need-returns
 returns c = ap (λ (x : ℕ). c .before .before .args .has && ltb 1 x) (c .byte .ensures)

@@ -10,10 +10,10 @@ use Rattle.format.proofs.form.length.Statement.{statement}
 use Rattle.format.proofs.form.length.Tie as tie
 
 byte-requires : tie.Need-byte-requires
-byte-requires c κs = search needs
+byte-requires c κs = tt
 
 fixed-requires : tie.Need-fixed-requires
-fixed-requires c κs = search needs
+fixed-requires c κs = tt
 
 returns : tie.Need-returns
 returns c =
@@ -22,13 +22,13 @@ returns c =
     no-op (a .s .now) (a .region) (sym n ∙ c .if1 .taken)
 
 flags-are-bad-requires : tie.Need-flags-are-bad-requires
-flags-are-bad-requires c κs = search needs
+flags-are-bad-requires c κs = tt
 
 counts-are-bad-requires : tie.Need-counts-are-bad-requires
-counts-are-bad-requires c κs = search needs
+counts-are-bad-requires c κs = tt
 
 places-are-bad-requires : tie.Need-places-are-bad-requires
-places-are-bad-requires c κs = search needs
+places-are-bad-requires c κs = tt
 
 returns-2 : tie.Need-returns-2
 returns-2 c =
@@ -45,7 +45,7 @@ cast-result : tie.Need-cast-result
 cast-result c = search needs
 
 list-requires : tie.Need-list-requires
-list-requires c κs = search needs
+list-requires c κs = tt
 
 cast-result-2 : tie.Need-cast-result-2
 cast-result-2 c = search needs

@@ -9,25 +9,25 @@ use Rattle.format.proofs.header.geometry.Statement.{statement}
 use Rattle.format.proofs.header.geometry.Tie as tie
 
 word-requires : tie.Need-word-requires
-word-requires c κs = search needs
+word-requires c κs = tt
 
 cast-t5 : tie.Need-cast-t5
 cast-t5 c = search needs
 
 word-requires-2 : tie.Need-word-requires-2
-word-requires-2 c κs = search needs
+word-requires-2 c κs = tt
 
 cast-t7 : tie.Need-cast-t7
 cast-t7 c = search needs
 
 word-requires-3 : tie.Need-word-requires-3
-word-requires-3 c κs = search needs
+word-requires-3 c κs = tt
 
 cast-t9 : tie.Need-cast-t9
 cast-t9 c = search needs
 
 half-requires : tie.Need-half-requires
-half-requires c κs = search needs
+half-requires c κs = tt
 
 returns : tie.Need-returns
 unfolding geometryOf
@@ -36,16 +36,16 @@ returns c =
     (λ i. layout (c .half .ensures i) (c .before .before .before .word .ensures i) (c .before .before .word2 .ensures i) (c .before .word3 .ensures i))
 
 long-requires : tie.Need-long-requires
-long-requires c κs = search needs
+long-requires c κs = tt
 
 long-requires-2 : tie.Need-long-requires-2
-long-requires-2 c κs = search needs
+long-requires-2 c κs = tt
 
 long-requires-3 : tie.Need-long-requires-3
-long-requires-3 c κs = search needs
+long-requires-3 c κs = tt
 
 half-requires-2 : tie.Need-half-requires-2
-half-requires-2 c κs = search needs
+half-requires-2 c κs = tt
 
 returns-2 : tie.Need-returns-2
 unfolding geometryOf

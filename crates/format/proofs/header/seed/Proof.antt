@@ -1,12 +1,11 @@
 -- `format::header::seed` meets its contract: the header's number 6.
 -- Assumes nothing.
-use borrow.Author.Needs.{needs}
 use Rattle.format.specs.Header.{seedOf}
 use Rattle.format.proofs.header.seed.Statement.{statement}
 use Rattle.format.proofs.header.seed.Tie as tie
 
 word-requires : tie.Need-word-requires
-word-requires c κs = search needs
+word-requires c κs = tt
 
 returns : tie.Need-returns
 unfolding seedOf

@@ -1,6 +1,5 @@
 -- `format::input::bit` meets its contract: the byte there, tested.
 -- Assumes nothing.
-use borrow.Author.Needs.{needs}
 use Prim.Native.Nat.{ℕ}
 use mathlib.Core.Path.{ap}
 use lib.Dec.{eqb}
@@ -9,7 +8,7 @@ use Rattle.format.proofs.input.bit.Statement.{statement}
 use Rattle.format.proofs.input.bit.Tie as tie
 
 byte-requires : tie.Need-byte-requires
-byte-requires c κs = search needs
+byte-requires c κs = tt
 
 returns : tie.Need-returns
 unfolding bitAt

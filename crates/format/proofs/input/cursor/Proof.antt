@@ -1,6 +1,5 @@
 -- `format::input::cursor` meets its contract: a head and a wrap of the part behind the place.
 -- Assumes nothing.
-use borrow.Author.Needs.{needs}
 use denote.Ref.{ptr}
 use Rattle.base.specs.Part.{slice}
 use Rattle.format.proofs.Reading.{cursor-behind}
@@ -8,13 +7,13 @@ use Rattle.format.proofs.input.cursor.Statement.{statement}
 use Rattle.format.proofs.input.cursor.Tie as tie
 
 from8-requires : tie.Need-from8-requires
-from8-requires c κs = search needs
+from8-requires c κs = tt
 
 half-requires : tie.Need-half-requires
-half-requires c κs = search needs
+half-requires c κs = tt
 
 bit-requires : tie.Need-bit-requires
-bit-requires c κs = search needs
+bit-requires c κs = tt
 
 returns : tie.Need-returns
 returns c =

@@ -1,6 +1,5 @@
 -- `format::input::event` meets its contract: the two words behind the op.
 -- Assumes nothing.
-use borrow.Author.Needs.{needs}
 use mathlib.Core.Path.{ap₂, _∙_}
 use Rattle.event.specs.Event.{event}
 use Rattle.format.specs.Input.{eventAt}
@@ -8,13 +7,13 @@ use Rattle.format.proofs.input.event.Statement.{statement}
 use Rattle.format.proofs.input.event.Tie as tie
 
 half-requires : tie.Need-half-requires
-half-requires c κs = search needs
+half-requires c κs = tt
 
 half-requires-2 : tie.Need-half-requires-2
-half-requires-2 c κs = search needs
+half-requires-2 c κs = tt
 
 new-requires : tie.Need-new-requires
-new-requires c κs = search needs
+new-requires c κs = tt
 
 returns : tie.Need-returns
 unfolding eventAt

@@ -1,6 +1,5 @@
 -- `format::input::half` meets its contract: two bytes of the part behind the place.
 -- Assumes nothing.
-use borrow.Author.Needs.{needs}
 use denote.Ref.{ptr}
 use Rattle.base.specs.Part.{slice}
 use Rattle.format.proofs.Reading.{half-behind}
@@ -8,16 +7,16 @@ use Rattle.format.proofs.input.half.Statement.{statement}
 use Rattle.format.proofs.input.half.Tie as tie
 
 from8-requires : tie.Need-from8-requires
-from8-requires c κs = search needs
+from8-requires c κs = tt
 
 byte-requires : tie.Need-byte-requires
-byte-requires c κs = search needs
+byte-requires c κs = tt
 
 byte-requires-2 : tie.Need-byte-requires-2
-byte-requires-2 c κs = search needs
+byte-requires-2 c κs = tt
 
 word16-requires : tie.Need-word16-requires
-word16-requires c κs = search needs
+word16-requires c κs = tt
 
 returns : tie.Need-returns
 returns c =

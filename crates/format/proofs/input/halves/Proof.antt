@@ -28,13 +28,13 @@ cast-set16 : tie.Need-cast-set16 Inv-loop μ-loop
 cast-set16 c = omega arith
 
 half-requires : tie.Need-half-requires Inv-loop μ-loop
-half-requires c κs = search needs
+half-requires c κs = tt
 
 set16-requires : tie.Need-set16-requires Inv-loop μ-loop
-set16-requires c κs = search needs
+set16-requires c κs = tt
 
 on-requires : tie.Need-on-requires Inv-loop μ-loop
-on-requires c κs = search needs
+on-requires c κs = tt
 
 add-k : tie.Need-add-k Inv-loop μ-loop
 add-k c = omega arith

@@ -1,6 +1,5 @@
 -- `format::input::long` meets its contract: two words of the part behind the place.
 -- Assumes nothing.
-use borrow.Author.Needs.{needs}
 use denote.Ref.{ptr}
 use Rattle.base.specs.Part.{slice}
 use Rattle.format.proofs.Reading.{long-behind}
@@ -8,16 +7,16 @@ use Rattle.format.proofs.input.long.Statement.{statement}
 use Rattle.format.proofs.input.long.Tie as tie
 
 from8-requires : tie.Need-from8-requires
-from8-requires c κs = search needs
+from8-requires c κs = tt
 
 word-requires : tie.Need-word-requires
-word-requires c κs = search needs
+word-requires c κs = tt
 
 word-requires-2 : tie.Need-word-requires-2
-word-requires-2 c κs = search needs
+word-requires-2 c κs = tt
 
 word64-requires : tie.Need-word64-requires
-word64-requires c κs = search needs
+word64-requires c κs = tt
 
 returns : tie.Need-returns
 returns c =

@@ -28,13 +28,13 @@ cast-set64 : tie.Need-cast-set64 Inv-loop μ-loop
 cast-set64 c = omega arith
 
 long-requires : tie.Need-long-requires Inv-loop μ-loop
-long-requires c κs = search needs
+long-requires c κs = tt
 
 set64-requires : tie.Need-set64-requires Inv-loop μ-loop
-set64-requires c κs = search needs
+set64-requires c κs = tt
 
 on-requires : tie.Need-on-requires Inv-loop μ-loop
-on-requires c κs = search needs
+on-requires c κs = tt
 
 add-k : tie.Need-add-k Inv-loop μ-loop
 add-k c = omega arith

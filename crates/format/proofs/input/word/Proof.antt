@@ -1,6 +1,5 @@
 -- `format::input::word` meets its contract: four bytes of the part behind the place.
 -- Assumes nothing.
-use borrow.Author.Needs.{needs}
 use denote.Ref.{ptr}
 use Rattle.base.specs.Part.{slice}
 use Rattle.format.proofs.Reading.{word-whole}
@@ -8,22 +7,22 @@ use Rattle.format.proofs.input.word.Statement.{statement}
 use Rattle.format.proofs.input.word.Tie as tie
 
 from8-requires : tie.Need-from8-requires
-from8-requires c κs = search needs
+from8-requires c κs = tt
 
 byte-requires : tie.Need-byte-requires
-byte-requires c κs = search needs
+byte-requires c κs = tt
 
 byte-requires-2 : tie.Need-byte-requires-2
-byte-requires-2 c κs = search needs
+byte-requires-2 c κs = tt
 
 byte-requires-3 : tie.Need-byte-requires-3
-byte-requires-3 c κs = search needs
+byte-requires-3 c κs = tt
 
 byte-requires-4 : tie.Need-byte-requires-4
-byte-requires-4 c κs = search needs
+byte-requires-4 c κs = tt
 
 word32-requires : tie.Need-word32-requires
-word32-requires c κs = search needs
+word32-requires c κs = tt
 
 returns : tie.Need-returns
 returns c =

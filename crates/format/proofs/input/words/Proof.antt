@@ -28,13 +28,13 @@ cast-set32 : tie.Need-cast-set32 Inv-loop μ-loop
 cast-set32 c = omega arith
 
 word-requires : tie.Need-word-requires Inv-loop μ-loop
-word-requires c κs = search needs
+word-requires c κs = tt
 
 set32-requires : tie.Need-set32-requires Inv-loop μ-loop
-set32-requires c κs = search needs
+set32-requires c κs = tt
 
 on-requires : tie.Need-on-requires Inv-loop μ-loop
-on-requires c κs = search needs
+on-requires c κs = tt
 
 add-k : tie.Need-add-k Inv-loop μ-loop
 add-k c = omega arith

@@ -9,40 +9,40 @@ use Rattle.format.proofs.lend.read.Statement.{statement}
 use Rattle.format.proofs.lend.read.Tie as tie
 
 word-requires : tie.Need-word-requires
-word-requires c κs = search needs
+word-requires c κs = tt
 
 cast-cut : tie.Need-cast-cut
 cast-cut c = search needs
 
 cut-requires : tie.Need-cut-requires
-cut-requires c κs = search needs
+cut-requires c κs = tt
 
 word-requires-2 : tie.Need-word-requires-2
-word-requires-2 c κs = search needs
+word-requires-2 c κs = tt
 
 cast-t7 : tie.Need-cast-t7
 cast-t7 c = search needs
 
 word-requires-3 : tie.Need-word-requires-3
-word-requires-3 c κs = search needs
+word-requires-3 c κs = tt
 
 cast-t9 : tie.Need-cast-t9
 cast-t9 c = search needs
 
 word-requires-4 : tie.Need-word-requires-4
-word-requires-4 c κs = search needs
+word-requires-4 c κs = tt
 
 cast-t11 : tie.Need-cast-t11
 cast-t11 c = search needs
 
 word-requires-5 : tie.Need-word-requires-5
-word-requires-5 c κs = search needs
+word-requires-5 c κs = tt
 
 cast-t13 : tie.Need-cast-t13
 cast-t13 c = search needs
 
 word-requires-6 : tie.Need-word-requires-6
-word-requires-6 c κs = search needs
+word-requires-6 c κs = tt
 
 cast-t15 : tie.Need-cast-t15
 cast-t15 c = search needs
