@@ -3,4 +3,5 @@ pub mod Reading
 pub mod Filling
 pub mod Headers
 pub mod Forms
+pub mod Examples
 pub mod Fixed
