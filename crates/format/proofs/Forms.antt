@@ -1,7 +1,7 @@
 -- A record's form. What the code asks of an op, test by test, is what the table's row says: each side is a list of places, and the
 -- two are computed and compared at each op that a byte can be.
 -- Assumes nothing.
-use Prim.Native.Nat.{ℕ, zero, suc, _+_, _*_, _≤_, _<_}
+use Prim.Native.Nat.{ℕ, zero, suc, _+_, _*_, _<_}
 use mathlib.Core.Path.{_≡_, refl, sym, ap, ap₂, _∙_}
 use mathlib.Core.List.{List, [], _∷_}
 use mathlib.Core.Bool.{Bool, true, false, not, cond, _||_, _&&_}

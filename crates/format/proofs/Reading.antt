@@ -10,7 +10,7 @@ use lib.Dec.{eqb}
 use lib.ListN.{length, getD, drop, List·getD-eq-default}
 use lib.Seq.{getD-drop}
 use Rattle.base.specs.Bytes.{wordAt}
-use Rattle.base.specs.Part.{Slice, slice}
+use Rattle.base.specs.Part.{Slice}
 use Rattle.base.proofs.Tests.{by-lt}
 use Rattle.cursor.specs.Cursor.{at}
 use Rattle.format.specs.Part.{fromOf}

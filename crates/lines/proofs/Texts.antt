@@ -1,11 +1,11 @@
 -- Text put into a buffer, exit by exit, and numbers one after the other.
 -- Assumes nothing.
-use Prim.Native.Nat.{ℕ, zero, suc, _+_, _≤_, _<_}
+use Prim.Native.Nat.{ℕ, _+_, _≤_, _<_}
 use mathlib.Core.Path.{_≡_, refl, sym, ap, ap₂, _∙_}
 use mathlib.Core.List.{List, [], _∷_, _++_}
 use native.Mathlib.Omega.{arith}
 use native.Mathlib.Numerals.{add-one}
-use lib.ListN.{length, getD, take, drop, set, length-append}
+use lib.ListN.{length, getD, drop, set, length-append}
 use lib.Seq.{sets, take-all, take-append-seam, getD-append-seam, drop-cons, drop-length, getD-drop, drop-drop}
 use native.Mathlib.Nat.{add-zero}
 use mathlib.Core.Bool.{true, false}

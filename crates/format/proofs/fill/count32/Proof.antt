@@ -1,7 +1,7 @@
 -- `format::fill::count32` meets its contract. The loop's invariant: the first k entries are filled.
 -- Assumes nothing.
 use native.Mathlib.Omega.{arith}
-use Prim.Native.Nat.{ℕ, _-_, _≤_}
+use Prim.Native.Nat.{_-_, _≤_}
 use mathlib.Core.Path.{_∙_}
 use native.Mathlib.Nat.{zero-add}
 use Rattle.ring.specs.Tables.{upTo}

@@ -1,7 +1,6 @@
 -- `format::header::geometry` meets its contract, field by field.
 -- Assumes nothing.
 use borrow.Author.Needs.{needs}
-use mathlib.Core.Path.{_∙_}
 use borrow.Author.Tests.{eq-eqb, ne-eqb}
 use Rattle.layout.specs.Layout.{layout}
 use Rattle.format.specs.Header.{geometryOf}

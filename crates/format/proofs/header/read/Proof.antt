@@ -2,11 +2,7 @@
 -- Assumes nothing.
 use native.Mathlib.Omega.{arith}
 use borrow.Author.Needs.{needs}
-use Prim.Native.Nat.{ℕ, _≤_, _<_}
-use mathlib.Core.Path.{_≡_, sym, _∙_}
-use mathlib.Core.List.{List}
-use lib.ListN.{length}
-use Rattle.base.specs.Bytes.{wordAt}
+use mathlib.Core.Path.{sym, _∙_}
 use Rattle.format.specs.declared.header.Found.the-variants as found
 use Rattle.format.proofs.Headers.{header-cut, header-magic, header-size, header-region, header-good}
 use Rattle.format.proofs.header.read.Statement.{statement}

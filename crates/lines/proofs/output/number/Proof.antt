@@ -2,12 +2,12 @@
 -- Assumes nothing.
 use native.Mathlib.Omega.{arith}
 use borrow.Author.Needs.{needs}
-use Prim.Native.Nat.{ℕ, _+_, _≤_, _<_}
+use Prim.Native.Nat.{_+_, _≤_}
 use mathlib.Core.Path.{_≡_, sym, _∙_}
-use mathlib.Core.Bool.{true, false}
+use mathlib.Core.Bool.{true}
 use lib.Dec.{leb}
 use lib.ListN.{length, take}
-use borrow.Author.Tests.{leb-true, leb-false}
+use borrow.Author.Tests.{leb-true}
 use Rattle.lines.proofs.Decimal.{at-most-20}
 use Rattle.lines.proofs.Texts.{number-put, number-lost}
 use Rattle.lines.proofs.output.number.Statement.{statement}
@@ -19,6 +19,9 @@ few c = at-most-20 (c .decimal .result) (c .before .before .before .args .x) (se
 
 fits : (c : tie.Then1) → let a = c .before .before .before .before .before .args in leb (a .n + (c .before .before .decimal .result + 1)) (length (a .out .now)) ≡ true
 fits c = sym (c .before .ends-by .ensures) ∙ c .if1 .taken
+
+room : (c : tie.Then1) → let a = c .before .before .before .before .before .args in a .n + (c .before .before .decimal .result + 1) ≤ length (a .out .now)
+room c = let a = c .before .before .before .before .before .args in leb-true (a .n + (c .before .before .decimal .result + 1)) (length (a .out .now)) (fits c)
 
 decimal-requires : tie.Need-decimal-requires
 decimal-requires c κs = search needs
@@ -39,24 +42,17 @@ put-requires : tie.Need-put-requires
 put-requires c κs = search needs
 
 add-out : tie.Need-add-out
-add-out c =
-    let a = c .before .before .before .before .before .before .before .before .before .before .args in
-    omega (arith, leb-true (a .n + (c .before .before .before .before .before .before .before .decimal .result + 1)) (length (a .out .now)) (fits (c .before .before .before .before .before)))
+add-out c = omega (arith, room (c .before .before .before .before .before))
 
 slice-write-out : tie.Need-slice-write-out
 slice-write-out c =
-    let a = c .before .before .before .before .before .before .before .before .before .before .args in
-    omega (arith, leb-true (a .n + (c .before .before .before .before .before .before .before .decimal .result + 1)) (length (a .out .now)) (fits (c .before .before .before .before .before)), c .before .before .put .kept .0)
+    omega (arith, room (c .before .before .before .before .before), c .before .before .put .kept .0)
 
 add-result : tie.Need-add-result
-add-result c =
-    let a = c .before .before .before .before .before .before .before .before .before .before .args in
-    omega (arith, leb-true (a .n + (c .before .before .before .before .before .before .before .decimal .result + 1)) (length (a .out .now)) (fits (c .before .before .before .before .before)))
+add-result c = omega (arith, room (c .before .before .before .before .before))
 
 add-result-2 : tie.Need-add-result-2
-add-result-2 c =
-    let a = c .before .before .before .before .before .before .before .before .before .before .args in
-    omega (arith, leb-true (a .n + (c .before .before .before .before .before .before .before .decimal .result + 1)) (length (a .out .now)) (fits (c .before .before .before .before .before)))
+add-result-2 c = omega (arith, room (c .before .before .before .before .before))
 
 same-length : tie.Need-same-length
 same-length c = search needs
