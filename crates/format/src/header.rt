@@ -1,4 +1,6 @@
 // A trace's header: ten numbers of 32 bits. A header is run like a record of the op 0, which opens both ends.
+ghost use mathlib.Core.Path.{_≡_};
+ghost use Rattle.format.specs.Header.{headerOf, seedOf, geometryOf};
 use crate::input;
 use layout::Layout;
 
@@ -21,7 +23,9 @@ pub enum Found {
 }
 
 // The header at the start of s. The last number is not looked at.
-pub fn read(s: &[u8]) -> Found {
+pub fn read(s: &[u8]) -> Found
+    ensures { λ r. ⌜ r ≡ headerOf (now (s .entry)) ⌝ }
+{
     let region = input::word(s, 20);
     if s.len() < LENGTH {
         return Found::Bad;
@@ -42,12 +46,16 @@ pub fn read(s: &[u8]) -> Found {
     })
 }
 
-pub fn seed(s: &[u8]) -> u32 {
+pub fn seed(s: &[u8]) -> u32
+    ensures { λ r. ⌜ r ≡ seedOf (now (s .entry)) ⌝ }
+{
     input::word(s, 24)
 }
 
 // Where a header, or a record that opens an end again, has the ring.
-pub fn geometry(op: u8, s: &[u8]) -> Layout {
+pub fn geometry(op: u8, s: &[u8]) -> Layout
+    ensures { λ r. ⌜ r ≡ geometryOf op (now (s .entry)) ⌝ }
+{
     if op == OP {
         return Layout {
             table: input::word(s, 8) as usize,

@@ -1,4 +1,6 @@
 // How much of what there is the ends are lent.
+ghost use mathlib.Core.Path.{_≡_};
+ghost use Rattle.format.specs.Lend.{wholeOf, lentOf};
 use crate::form;
 use crate::input;
 use crate::part;
@@ -13,7 +15,9 @@ pub struct Lent {
 }
 
 // All of a region of so many bytes, and all of every table and output.
-pub fn whole(region: usize) -> Lent {
+pub fn whole(region: usize) -> Lent
+    ensures { λ r. ⌜ r ≡ wholeOf region ⌝ }
+{
     let n = form::ENTRIES as usize;
     Lent {
         bytes: region,
@@ -26,7 +30,9 @@ pub fn whole(region: usize) -> Lent {
 }
 
 // What a record says; of the region no more than there is. The others are cut to their slices where they are lent.
-pub fn read(record: &[u8], region: usize) -> Lent {
+pub fn read(record: &[u8], region: usize) -> Lent
+    ensures { λ r. ⌜ r ≡ lentOf (now («record» .entry)) region ⌝ }
+{
     Lent {
         bytes: part::cut(input::word(record, 1) as usize, region),
         ids: input::word(record, 5) as usize,

@@ -1,4 +1,11 @@
 // A line's numbers in decimal, put into a lent buffer from a place on. Each function answers the next place.
+ghost use mathlib.Core.Path.{_≡_};
+ghost use mathlib.Core.List.{[], _∷_};
+ghost use Rattle.base.specs.Refusals as refusals;
+ghost use Rattle.base.specs.Answer.{bit};
+ghost use Rattle.lines.specs.Line.{valuesOf};
+ghost use Rattle.lines.specs.Text.{numberOf, badLine, written, putText, putValues, pairsOf};
+use crate::answer;
 use crate::answer::Answer;
 use base::RingError;
 use base::bytes;
@@ -9,85 +16,103 @@ use format::part;
 // sees to it that a longest line fits, and ends the run where one did not.
 pub const LOST: usize = 18446744073709551615;
 
-pub fn put(out: &mut [u8], n: usize, b: u8) -> usize {
-    if n < out.len() {
-        out[n] = b;
-        return n + 1;
+// Text, whole or not at all.
+fn put(out: &mut [u8], n: usize, text: &[u8]) -> usize
+    ensures { λ r. ⌜ written r (now (out .exit)) ≡ putText (now (text .entry)) (written n (now (out .entry))) ⌝ }
+{
+    let end = out.len();
+    if pick::ends_by(n, text.len(), end) {
+        bytes::put(out, n, text);
+        return n + text.len();
     }
     LOST
 }
 
-fn number(out: &mut [u8], n: usize, x: u64) -> usize {
+// A number and the byte behind it, both or neither.
+fn number(out: &mut [u8], n: usize, x: u64, end: u8) -> usize
+    ensures { λ r. ⌜ written r (now (out .exit)) ≡ putText (numberOf end x) (written n (now (out .entry))) ⌝ }
+{
     let mut text = [0u8; 20];
     let k = io::decimal(x, &mut text);
-    if out.len() < n {
-        return LOST;
+    if pick::ends_by(n, k + 1, out.len()) {
+        bytes::put(out, n, &text[..k]);
+        out[n + k] = end;
+        return n + k + 1;
     }
-    if out.len() - n < k {
-        return LOST;
-    }
-    bytes::put(out, n, &text[..k]);
-    n + k
+    LOST
 }
 
 // A number that another follows.
-pub fn value(out: &mut [u8], n: usize, x: u64) -> usize {
-    let n = number(out, n, x);
-    put(out, n, b' ')
+pub fn value(out: &mut [u8], n: usize, x: u64) -> usize
+    ensures { λ r. ⌜ written r (now (out .exit)) ≡ putValues (x ∷ []) (written n (now (out .entry))) ⌝ }
+{
+    number(out, n, x, b' ')
 }
 
-pub fn value8(out: &mut [u8], n: usize, x: u8) -> usize {
+pub fn value8(out: &mut [u8], n: usize, x: u8) -> usize
+    ensures { λ r. ⌜ written r (now (out .exit)) ≡ putValues (x ∷ []) (written n (now (out .entry))) ⌝ }
+{
     value(out, n, x as u64)
 }
 
-pub fn value32(out: &mut [u8], n: usize, x: u32) -> usize {
+pub fn value32(out: &mut [u8], n: usize, x: u32) -> usize
+    ensures { λ r. ⌜ written r (now (out .exit)) ≡ putValues (x ∷ []) (written n (now (out .entry))) ⌝ }
+{
     value(out, n, x as u64)
 }
 
-pub fn value16(out: &mut [u8], n: usize, x: u16) -> usize {
+pub fn value16(out: &mut [u8], n: usize, x: u16) -> usize
+    ensures { λ r. ⌜ written r (now (out .exit)) ≡ putValues (x ∷ []) (written n (now (out .entry))) ⌝ }
+{
     value(out, n, x as u64)
 }
 
-pub fn flag(out: &mut [u8], n: usize, b: bool) -> usize {
-    if b {
-        value(out, n, 1)
-    } else {
-        value(out, n, 0)
-    }
+pub fn flag(out: &mut [u8], n: usize, b: bool) -> usize
+    ensures { λ r. ⌜ written r (now (out .exit)) ≡ putValues (bit b ∷ []) (written n (now (out .entry))) ⌝ }
+{
+    value(out, n, answer::bit(b))
 }
 
 // The last number of a line.
-pub fn last(out: &mut [u8], n: usize, x: u64) -> usize {
-    let n = number(out, n, x);
-    put(out, n, b'\n')
+pub fn last(out: &mut [u8], n: usize, x: u64) -> usize
+    ensures { λ r. ⌜ written r (now (out .exit)) ≡ putText (numberOf 10 x) (written n (now (out .entry))) ⌝ }
+{
+    number(out, n, x, b'\n')
 }
 
 // A line's start: the op and its status.
-pub fn start(out: &mut [u8], n: usize, op: u8, status: u8) -> usize {
+pub fn start(out: &mut [u8], n: usize, op: u8, status: u8) -> usize
+    ensures { λ r. ⌜ written r (now (out .exit)) ≡ putValues (op ∷ status ∷ []) (written n (now (out .entry))) ⌝ }
+{
     let n = value8(out, n, op);
     value8(out, n, status)
 }
 
-pub fn refused(out: &mut [u8], n: usize, op: u8, e: RingError) -> usize {
+pub fn refused(out: &mut [u8], n: usize, op: u8, e: RingError) -> usize
+    ensures { λ r. ⌜ written r (now (out .exit)) ≡ putValues (op ∷ refusals.numberOf e ∷ []) (written n (now (out .entry))) ⌝ }
+{
     start(out, n, op, e.number())
 }
 
 // A line from its op to its last value.
-pub fn answer(out: &mut [u8], n: usize, op: u8, a: Answer) -> usize {
+pub fn answer(out: &mut [u8], n: usize, op: u8, a: Answer) -> usize
+    ensures { λ r. ⌜ written r (now (out .exit)) ≡ putValues (op ∷ a .status ∷ valuesOf a) (written n (now (out .entry))) ⌝ }
+{
     let n = start(out, n, op, a.status);
     let v = [a.a, a.b, a.c, a.d, a.e];
     values64(out, n, part::first64(&v, a.count as usize))
 }
 
 // The run's last line.
-pub fn bad(out: &mut [u8], n: usize) -> usize {
-    let n = put(out, n, b'b');
-    let n = put(out, n, b'a');
-    let n = put(out, n, b'd');
-    put(out, n, b'\n')
+pub fn bad(out: &mut [u8], n: usize) -> usize
+    ensures { λ r. ⌜ written r (now (out .exit)) ≡ putText badLine (written n (now (out .entry))) ⌝ }
+{
+    put(out, n, b"bad\n")
 }
 
-pub fn values8(out: &mut [u8], n: usize, s: &[u8]) -> usize {
+pub fn values8(out: &mut [u8], n: usize, s: &[u8]) -> usize
+    ensures { λ r. ⌜ written r (now (out .exit)) ≡ putValues (now (s .entry)) (written n (now (out .entry))) ⌝ }
+{
     let mut n = n;
     for k in 0..s.len() {
         n = value8(out, n, s[k]);
@@ -95,7 +120,9 @@ pub fn values8(out: &mut [u8], n: usize, s: &[u8]) -> usize {
     n
 }
 
-pub fn values16(out: &mut [u8], n: usize, s: &[u16]) -> usize {
+pub fn values16(out: &mut [u8], n: usize, s: &[u16]) -> usize
+    ensures { λ r. ⌜ written r (now (out .exit)) ≡ putValues (now (s .entry)) (written n (now (out .entry))) ⌝ }
+{
     let mut n = n;
     for k in 0..s.len() {
         n = value16(out, n, s[k]);
@@ -103,7 +130,9 @@ pub fn values16(out: &mut [u8], n: usize, s: &[u16]) -> usize {
     n
 }
 
-pub fn values32(out: &mut [u8], n: usize, s: &[u32]) -> usize {
+pub fn values32(out: &mut [u8], n: usize, s: &[u32]) -> usize
+    ensures { λ r. ⌜ written r (now (out .exit)) ≡ putValues (now (s .entry)) (written n (now (out .entry))) ⌝ }
+{
     let mut n = n;
     for k in 0..s.len() {
         n = value32(out, n, s[k]);
@@ -111,7 +140,9 @@ pub fn values32(out: &mut [u8], n: usize, s: &[u32]) -> usize {
     n
 }
 
-pub fn values64(out: &mut [u8], n: usize, s: &[u64]) -> usize {
+pub fn values64(out: &mut [u8], n: usize, s: &[u64]) -> usize
+    ensures { λ r. ⌜ written r (now (out .exit)) ≡ putValues (now (s .entry)) (written n (now (out .entry))) ⌝ }
+{
     let mut n = n;
     for k in 0..s.len() {
         n = value(out, n, s[k]);
@@ -120,7 +151,9 @@ pub fn values64(out: &mut [u8], n: usize, s: &[u64]) -> usize {
 }
 
 // Each address with its length.
-pub fn pairs(out: &mut [u8], n: usize, addrs: &[u64], lens: &[u32]) -> usize {
+pub fn pairs(out: &mut [u8], n: usize, addrs: &[u64], lens: &[u32]) -> usize
+    ensures { λ r. ⌜ written r (now (out .exit)) ≡ putValues (pairsOf (now (addrs .entry)) (now (lens .entry))) (written n (now (out .entry))) ⌝ }
+{
     let mut n = n;
     for k in 0..addrs.len() {
         n = value(out, n, addrs[k]);

@@ -1,47 +1,69 @@
--- `format::input::halves` is safe and ends. The loop keeps the slice's length; the measure is what is left of the entries.
+-- `format::input::halves` meets its contract. The loop's invariant: the first k numbers are there, and the place stands for k
+-- strides behind the first.
 -- Assumes nothing.
+use native.Mathlib.Omega.{arith}
 use borrow.Author.Needs.{needs}
-use Prim.Native.Nat.{_-_}
+use Prim.Native.Nat.{_+_, _*_, _-_, _≤_, min}
 use mathlib.Core.Path.{_≡_}
 use lib.ListN.{length}
+use Rattle.format.specs.Input.{numbersAt}
+use Rattle.format.proofs.Reading.{numbers-length, number-read, onward}
+use Rattle.format.proofs.Filling.{Filled, fill-none, fill-next, fill-all}
 use Rattle.format.proofs.input.halves.Statement.{statement}
 use Rattle.format.proofs.input.halves.Tie as tie
 
 abbrev Inv-loop : tie.InvT-loop
-Inv-loop s from stride n into₀ at₀ k₀ into at k = length into ≡ length into₀
+Inv-loop s from stride n into₀ at₀ k₀ into at k =
+    (k ≤ n) × (min at (length s) ≡ min (from + k * stride) (length s)) × Filled (numbersAt 2 s from stride n) into₀ into k
 
 abbrev μ-loop : tie.MeasureT-loop
 μ-loop s from stride n into₀ at₀ k₀ into at k = n - k
 
 loop-holds : tie.Need-loop-holds Inv-loop μ-loop
-loop-holds c = search needs
+loop-holds c =
+    let a = c .before .before .args in
+    (omega arith, omega arith, fill-none (numbersAt 2 (a .s .now) (a .«from») (a .stride) (a .n)) (a .into .now))
 
 cast-set16 : tie.Need-cast-set16 Inv-loop μ-loop
-cast-set16 c = search needs
+cast-set16 c = omega arith
 
 half-requires : tie.Need-half-requires Inv-loop μ-loop
-half-requires c κs = search needs
+half-requires c κs = tt
 
 set16-requires : tie.Need-set16-requires Inv-loop μ-loop
-set16-requires c κs = search needs
+set16-requires c κs = tt
 
-wrapping-add-usize-requires : tie.Need-wrapping-add-usize-requires Inv-loop μ-loop
-wrapping-add-usize-requires c κs = search needs
+on-requires : tie.Need-on-requires Inv-loop μ-loop
+on-requires c κs = tt
 
 add-k : tie.Need-add-k Inv-loop μ-loop
-add-k c = search needs
+add-k c = omega arith
 
 loop-less : tie.Need-loop-less Inv-loop μ-loop
-loop-less c = search needs
+loop-less c = omega arith
 
 loop-again : tie.Need-loop-again Inv-loop μ-loop
-loop-again c = search needs
+loop-again c =
+    let h = c .before .before .before .before .before .before .before .loop in
+    let a = c .before .before .before .before .before .before .before .before .before .before .args in
+    let s = a .s .now in
+    let n = numbers-length 2 (a .s .now) (a .«from») (a .stride) (a .n) in (
+      omega arith,
+      onward (a .«from») (h .k) (a .stride) (length s) (h .at) (c .on .result) (search needs) (h .inv .1) (c .on .ensures),
+      fill-next (numbersAt 2 (a .s .now) (a .«from») (a .stride) (a .n)) (a .into .now) (h .inv .2) (omega arith)
+          (number-read 2 s (a .«from») (a .stride) (a .n) (h .k) (h .at) (omega arith) (h .inv .1) (c .before .before .before .before .half .ensures))
+          (c .before .before .before .set16 .kept .0) (c .before .before .before .set16 .ensures),
+    )
 
 same-length : tie.Need-same-length Inv-loop μ-loop
-same-length c = search needs
+same-length c = c .before .loop .inv .2 .0
 
 returns : tie.Need-returns Inv-loop μ-loop
-returns c = search needs
+returns c =
+    let h = c .before .loop in
+    let a = c .before .before .before .before .args in
+    let n = numbers-length 2 (a .s .now) (a .«from») (a .stride) (a .n) in
+    fill-all (numbersAt 2 (a .s .now) (a .«from») (a .stride) (a .n)) (a .into .now) (h .k) (h .inv .2) (omega arith)
 
 pub halves-spec : {M : Type 1} → statement M
 halves-spec =
@@ -53,7 +75,7 @@ halves-spec =
     cast-set16
     half-requires
     set16-requires
-    wrapping-add-usize-requires
+    on-requires
     add-k
     loop-less
     loop-again

@@ -1,0 +1,4 @@
+pub mod Decimal
+pub mod Texts
+pub mod Examples
+pub mod Fixed
