@@ -2,12 +2,13 @@
 -- Assumes nothing.
 use Prim.Native.Nat.{ℕ, _+_, _-_, _≤_, _<_}
 use mathlib.Core.Path.{_≡_, refl, sym, _∙_, ap}
-use mathlib.Core.List.{List}
+use mathlib.Core.List.{List, [], _∷_}
 use mathlib.Core.Bool.{Bool, true, false, cond, _||_, _&&_, Bool·beq}
 use native.Mathlib.Omega.{arith}
 use lib.Dec.{ltb, leb, eqb}
 use lib.ListN.{length, getD}
 use borrow.Author.Tests.{eq-eqb, ne-eqb, le-ltb, lt-leb}
+use Rattle.base.specs.Answer.{Answer, valued, bit}
 use Rattle.base.proofs.Refusals.{valued-number}
 use Rattle.base.proofs.Tests.{or-true}
 use Rattle.cursor.specs.declared.RingCursor.{RingCursor}
@@ -17,12 +18,13 @@ use Rattle.desc.specs.Flags.{isAvail}
 use Rattle.event.specs.Event.{ENABLE}
 use Rattle.layout.specs.declared.Layout.{Layout}
 use Rattle.layout.specs.Layout.{badLayout, outside}
+use Rattle.ring.specs.Events.{told}
 use Rattle.consumer.specs.declared.RingConsumer.{RingConsumer}
 use Rattle.consumer.specs.declared.Checkpoint.{Checkpoint}
 use Rattle.consumer.specs.Record.{badRecord, badLent, bytesRefusal}
 use Rattle.consumer.specs.Outcome.{Outcome, outcome}
 use Rattle.consumer.specs.Poll.{headRefusal, pastOf}
-use Rattle.consumer.specs.Complete.{completeRefusal, completedOf, valued, tellOf}
+use Rattle.consumer.specs.Complete.{completeRefusal, completedOf, tellOf}
 use Rattle.consumer.specs.Rollback.{handedRefusal, sameOf, staleOf, backOf}
 use Rattle.consumer.specs.Notices.{shadowOf}
 use Rattle.consumer.specs.Fresh.{freshOf}
@@ -90,7 +92,11 @@ module _ (old : RingCursor) (o : Outcome) where
   unfolding tellOf
   tell-number = valued-number _ (o .answer)
 
-  pub tell-answer : tellOf old o .answer ≡ valued old o
+  -- the value that is told
+  abbrev pub tellAnswer : Answer
+  tellAnswer = valued (bit (told (o .end .layout .driver) (o .end .layout .size) old (o .end .used) (o .ring)) ∷ []) (o .answer)
+
+  pub tell-answer : tellOf old o .answer ≡ tellAnswer
   unfolding tellOf
   tell-answer = refl
 

@@ -61,7 +61,7 @@ module _ (p : RingConsumer) where
         let d = complete-done p l (c .counts) (c .id) (c .len) z in
         let after = consumer.usedPut p (c .id) (c .len) l in
         takes.tell-answer (p .used) (completed l)
-        ∙ ap (consumer.valued (p .used))
+        ∙ ap (takes.tellAnswer (p .used))
         (d ∙ (λ i. taken.outcome (done []) (takes.completed-is p n i) after (set (c .counts) (c .id) 0)))
         ∙ ap (λ (b : Bool). done (bit b ∷ []))
         (told-by-bytes driver size (p .used) past after l
@@ -72,7 +72,7 @@ module _ (p : RingConsumer) where
     refusal : (l : List ℕ) → (no (length l) ≡ 0 → ⊥) → deviceNotifies p c l ≡ refused (no (length l))
     refusal l z =
         takes.tell-answer (p .used) (completed l)
-        ∙ ap (consumer.valued (p .used)) (complete-refused p l (c .counts) (c .id) (c .len) z)
+        ∙ ap (takes.tellAnswer (p .used)) (complete-refused p l (c .counts) (c .id) (c .len) z)
         ∙ not-told _ _ _ (ne-eqb (no (length l)) 0 z)
 
     complete-reads : ReadsOnly driver (deviceNotifies p c)

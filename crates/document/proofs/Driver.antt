@@ -18,7 +18,6 @@ use Rattle.virtio.specs.Suppression.{WritesOnly, ReadsOnly, Suppression}
 use Rattle.producer.specs.declared.RingProducer.{RingProducer}
 use Rattle.producer.specs.Outcome as made
 use Rattle.producer.specs.Submit.{topOf, submitRefusal, elementOf, putChain, submitOf}
-use Rattle.producer.specs.Tell as producer
 use Rattle.producer.specs.Notices as used
 use Rattle.producer.proofs.Submit.{submit-ready, submit-refused, submit-done}
 use Rattle.producer.proofs.Notices.{since-refused, since-done}
@@ -76,7 +75,7 @@ module _ (p : RingProducer) where
         let w = putChain (p .layout) f n (p .avail) l in
         let c = chain-past (p .layout) f n (p .avail) l (r .elements) in
         makes.tell-answer (p .avail) (submitted l)
-        ∙ ap (producer.valued (p .avail))
+        ∙ ap (makes.tellAnswer (p .avail))
         (submit-done p l (s .ids) (s .counts) (s .addrs) (s .lens) (s .readable) z
         ∙ makes.submitted-is p (s .ids) (s .counts) n id w
         ∙ (λ i. made.outcome (done (id ∷ [])) (makes.taken-is p (w .past) n i) (w .bytes) (s .ids) (set (s .counts) id n)))
@@ -89,7 +88,7 @@ module _ (p : RingProducer) where
     refusal : (l : List ℕ) → (no (length l) ≡ 0 → ⊥) → driverNotifies p (inr s) l ≡ refused (no (length l))
     refusal l z =
         makes.tell-answer (p .avail) (submitted l)
-        ∙ ap (producer.valued (p .avail)) (submit-refused p l (s .ids) (s .counts) (s .addrs) (s .lens) (s .readable) z)
+        ∙ ap (makes.tellAnswer (p .avail)) (submit-refused p l (s .ids) (s .counts) (s .addrs) (s .lens) (s .readable) z)
         ∙ not-told _ _ _ (ne-eqb (no (length l)) 0 z)
 
     submit-reads : ReadsOnly device (driverNotifies p (inr s))

@@ -8,7 +8,7 @@ use native.Mathlib.Omega.{arith}
 use lib.Dec.{leb, eqb}
 use lib.ListN.{length, getD, set}
 use borrow.Author.Tests.{eq-eqb, ne-eqb, lt-ltb, le-ltb, lt-leb}
-use Rattle.base.specs.Answer.{done}
+use Rattle.base.specs.Answer.{Answer, done, valued, bit}
 use Rattle.base.proofs.Refusals.{valued-number}
 use Rattle.base.proofs.Tests.{split, or-true}
 use Rattle.cursor.specs.declared.RingCursor.{RingCursor}
@@ -19,11 +19,12 @@ use Rattle.event.specs.Event.{ENABLE}
 use Rattle.layout.specs.declared.Layout.{Layout}
 use Rattle.layout.specs.Layout.{badLayout, outside}
 use Rattle.chain.specs.Chain.{badChain}
+use Rattle.ring.specs.Events.{told}
 use Rattle.producer.specs.declared.RingProducer.{RingProducer}
 use Rattle.producer.specs.Record.{badRecord, badLent, bytesRefusal}
 use Rattle.producer.specs.Outcome.{Outcome, outcome}
 use Rattle.producer.specs.Submit.{topOf, submitRefusal, takenOf, submittedOf, Written}
-use Rattle.producer.specs.Tell.{valued, tellOf}
+use Rattle.producer.specs.Tell.{tellOf}
 use Rattle.producer.specs.Poll.{pollRefusal, freedOf, polledOf, nextRefusal}
 use Rattle.producer.specs.Notices.{sinceRefusal, shadowOf}
 use Rattle.producer.specs.Fresh.{freshOf}
@@ -151,7 +152,11 @@ module _ (old : RingCursor) (o : Outcome) where
   unfolding tellOf
   tell-value = split (eqb (o .answer .number) 0) (λ t. simp t) (λ f. simp f)
 
-  pub tell-answer : tellOf old o .answer ≡ valued old o
+  -- the value that is told
+  abbrev pub tellAnswer : Answer
+  tellAnswer = valued (getD (o .answer .values) 0 0 ∷ bit (told (o .end .layout .device) (o .end .layout .size) old (o .end .avail) (o .ring)) ∷ []) (o .answer)
+
+  pub tell-answer : tellOf old o .answer ≡ tellAnswer
   unfolding tellOf
   tell-answer = refl
 
