@@ -2,7 +2,7 @@
 use denote.Ref.{now}
 use Rattle.base.specs.Determined.{Determined}
 use Rattle.base.proofs.Determine.{by-equation}
-use Rattle.lines.specs.Text.{written}
+use Rattle.text.specs.Text.{written}
 use Rattle.lines.proofs.answer.Answer.five.Reads as answer-five
 use Rattle.lines.proofs.answer.Answer.done.Reads as answer-done
 use Rattle.lines.proofs.answer.Answer.one.Reads as answer-one

@@ -1,4 +1,3 @@
-pub mod Decimal
 pub mod Texts
 pub mod Examples
 pub mod Fixed

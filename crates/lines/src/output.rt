@@ -1,10 +1,13 @@
-// A line's numbers in decimal, put into a lent buffer from a place on. Each function answers the next place.
+// A line's numbers in decimal, put into a lent buffer from a place on. Each function answers the next place, or `text::LOST`
+// where a number did not fit: whoever writes the buffer out sees to it that a longest line fits, and ends the run where one
+// did not.
 ghost use mathlib.Core.Path.{_≡_};
 ghost use mathlib.Core.List.{[], _∷_};
 ghost use Rattle.base.specs.Refusals as refusals;
 ghost use Rattle.base.specs.Answer.{bit};
 ghost use Rattle.lines.specs.Line.{valuesOf};
-ghost use Rattle.lines.specs.Text.{numberOf, badLine, written, putText, putValues, pairsOf};
+ghost use Rattle.text.specs.Text.{written, putText};
+ghost use Rattle.lines.specs.Text.{ending, badLine, putValues, pairsOf};
 use crate::answer;
 use crate::answer::Answer;
 use base::RingError;
@@ -12,41 +15,11 @@ use base::bytes;
 use base::pick;
 use format::part;
 
-// The place that stands for a line that did not fit. Nothing is put there, so it stays. Whoever writes the buffer out
-// sees to it that a longest line fits, and ends the run where one did not.
-pub const LOST: usize = 18446744073709551615;
-
-// Text, whole or not at all.
-fn put(out: &mut [u8], n: usize, text: &[u8]) -> usize
-    ensures { λ r. ⌜ written r (now (out .exit)) ≡ putText (now (text .entry)) (written n (now (out .entry))) ⌝ }
-{
-    let end = out.len();
-    if pick::ends_by(n, text.len(), end) {
-        bytes::put(out, n, text);
-        return n + text.len();
-    }
-    LOST
-}
-
-// A number and the byte behind it, both or neither.
-fn number(out: &mut [u8], n: usize, x: u64, end: u8) -> usize
-    ensures { λ r. ⌜ written r (now (out .exit)) ≡ putText (numberOf end x) (written n (now (out .entry))) ⌝ }
-{
-    let mut text = [0u8; 20];
-    let k = io::decimal(x, &mut text);
-    if pick::ends_by(n, k + 1, out.len()) {
-        bytes::put(out, n, &text[..k]);
-        out[n + k] = end;
-        return n + k + 1;
-    }
-    LOST
-}
-
 // A number that another follows.
 pub fn value(out: &mut [u8], n: usize, x: u64) -> usize
     ensures { λ r. ⌜ written r (now (out .exit)) ≡ putValues (x ∷ []) (written n (now (out .entry))) ⌝ }
 {
-    number(out, n, x, b' ')
+    text::number(out, n, x, b' ')
 }
 
 pub fn value8(out: &mut [u8], n: usize, x: u8) -> usize
@@ -75,9 +48,9 @@ pub fn flag(out: &mut [u8], n: usize, b: bool) -> usize
 
 // The last number of a line.
 pub fn last(out: &mut [u8], n: usize, x: u64) -> usize
-    ensures { λ r. ⌜ written r (now (out .exit)) ≡ putText (numberOf 10 x) (written n (now (out .entry))) ⌝ }
+    ensures { λ r. ⌜ written r (now (out .exit)) ≡ putText (ending x) (written n (now (out .entry))) ⌝ }
 {
-    number(out, n, x, b'\n')
+    text::number(out, n, x, b'\n')
 }
 
 // A line's start: the op and its status.
@@ -107,7 +80,7 @@ pub fn answer(out: &mut [u8], n: usize, op: u8, a: Answer) -> usize
 pub fn bad(out: &mut [u8], n: usize) -> usize
     ensures { λ r. ⌜ written r (now (out .exit)) ≡ putText badLine (written n (now (out .entry))) ⌝ }
 {
-    put(out, n, b"bad\n")
+    text::put(out, n, b"bad\n")
 }
 
 pub fn values8(out: &mut [u8], n: usize, s: &[u8]) -> usize

@@ -93,5 +93,5 @@ fn emptied(out: &[u8], n: usize) -> usize {
             return n;
         }
     }
-    if write(out, n) { 0 } else { output::LOST }
+    if write(out, n) { 0 } else { text::LOST }
 }

@@ -7,7 +7,8 @@ use Prim.Native.Nat.{ℕ}
 use Rattle.base.specs.Part.{Slice}
 use Rattle.format.proofs.Parts.{first-elements}
 use Rattle.lines.specs.Line.{valuesOf}
-use Rattle.lines.specs.Text.{Written, written, putValues}
+use Rattle.text.specs.Text.{Written, written}
+use Rattle.lines.specs.Text.{putValues}
 use Rattle.lines.proofs.Texts.{values-append}
 use Rattle.lines.proofs.output.answer.Statement.{statement}
 use Rattle.lines.proofs.output.answer.Tie as tie

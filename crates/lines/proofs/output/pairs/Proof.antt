@@ -6,7 +6,8 @@ use Prim.Native.Nat.{ℕ, _+_, _-_, _≤_}
 use mathlib.Core.Path.{_≡_, refl, sym, ap, ap₂, _∙_}
 use mathlib.Core.List.{[], _∷_}
 use lib.ListN.{length, drop}
-use Rattle.lines.specs.Text.{Written, written, putValues, pairsOf}
+use Rattle.text.specs.Text.{Written, written}
+use Rattle.lines.specs.Text.{putValues, pairsOf}
 use Rattle.lines.proofs.Texts.{pairs-next, pairs-done}
 use Rattle.lines.proofs.output.pairs.Statement.{statement}
 use Rattle.lines.proofs.output.pairs.Tie as tie

@@ -4,7 +4,8 @@ use borrow.Author.Needs.{needs}
 use Prim.Native.Nat.{ℕ}
 use mathlib.Core.Path.{ap, _∙_}
 use mathlib.Core.List.{[], _∷_}
-use Rattle.lines.specs.Text.{written, putValues}
+use Rattle.text.specs.Text.{written}
+use Rattle.lines.specs.Text.{putValues}
 use Rattle.lines.proofs.output.refused.Statement.{statement}
 use Rattle.lines.proofs.output.refused.Tie as tie
 

@@ -3,7 +3,8 @@
 use borrow.Author.Needs.{needs}
 use mathlib.Core.Path.{sym, ap, _∙_}
 use mathlib.Core.List.{[], _∷_}
-use Rattle.lines.specs.Text.{written, putValues}
+use Rattle.text.specs.Text.{written}
+use Rattle.lines.specs.Text.{putValues}
 use Rattle.lines.proofs.Texts.{values-append}
 use Rattle.lines.proofs.output.start.Statement.{statement}
 use Rattle.lines.proofs.output.start.Tie as tie

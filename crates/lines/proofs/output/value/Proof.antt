@@ -2,7 +2,7 @@
 -- Assumes nothing.
 use borrow.Author.Needs.{needs}
 use mathlib.Core.Path.{sym, _∙_}
-use Rattle.lines.specs.Text.{written}
+use Rattle.text.specs.Text.{written}
 use Rattle.lines.proofs.Texts.{one-value}
 use Rattle.lines.proofs.output.value.Statement.{statement}
 use Rattle.lines.proofs.output.value.Tie as tie

@@ -5,7 +5,8 @@ use borrow.Author.Needs.{needs}
 use Prim.Native.Nat.{ℕ, _+_, _-_, _≤_}
 use mathlib.Core.Path.{_≡_, refl, sym, ap, _∙_}
 use lib.ListN.{length, drop}
-use Rattle.lines.specs.Text.{written, putValues}
+use Rattle.text.specs.Text.{written}
+use Rattle.lines.specs.Text.{putValues}
 use Rattle.lines.proofs.Texts.{values-next, values-done}
 use Rattle.lines.proofs.output.values32.Statement.{statement}
 use Rattle.lines.proofs.output.values32.Tie as tie
