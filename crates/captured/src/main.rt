@@ -10,26 +10,11 @@ use say::words;
 fn main() {
     let mut input = io::buffer();
     let n = io::read_full(0, &mut input);
-    if (n == 0) | (n % 17 != 0) | !are_known(&input, n) {
-        words(b"bad\n");
-    } else {
+    if say::are_records(&input[..n], 17, b"SE") {
         show_all(&input, n);
+    } else {
+        words(b"bad\n");
     }
-}
-
-// Does every record of the first n bytes begin with one of the two letters?
-fn are_known(input: &[u8], n: usize) -> bool {
-    for i in 0..240 {
-        let at = 17 * i;
-        if (at < n) & !is_known(letter(input, at)) {
-            return false;
-        }
-    }
-    true
-}
-
-fn is_known(b: u8) -> bool {
-    (b == b'S') | (b == b'E')
 }
 
 fn show_all(input: &[u8], n: usize) {

@@ -23,22 +23,11 @@ use record::Record;
 fn main() {
     let mut input = io::buffer();
     let n = io::read_full(0, &mut input);
-    if (n == 0) | (n % 24 != 0) | !are_known(&input, n) {
-        say::words(b"bad\n");
-    } else {
+    if say::are_records(&input[..n], 24, b"SLDPUYNAO") {
         run(&input, n);
+    } else {
+        say::words(b"bad\n");
     }
-}
-
-// Does every record of the first n bytes have an op of those above?
-fn are_known(input: &[u8], n: usize) -> bool {
-    for i in 0..170 {
-        let at = 24 * i;
-        if (at < n) & !Record::read(input, at).is_known() {
-            return false;
-        }
-    }
-    true
 }
 
 fn run(input: &[u8], n: usize) {

@@ -22,14 +22,6 @@ impl Record {
         }
     }
 
-    pub fn is_known(self) -> bool {
-        let op = self.op;
-        match op {
-            b'S' | b'L' | b'D' | b'P' | b'U' | b'Y' | b'N' | b'A' | b'O' => true,
-            _ => false,
-        }
-    }
-
     // Are its bytes an event area's, and not a slot's?
     pub fn is_area(self) -> bool {
         let op = self.op;

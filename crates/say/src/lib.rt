@@ -1,4 +1,4 @@
-// What the programs print: words, numbers, and cases with what they should give.
+// What the programs print: words, numbers, and cases with what they should give; and whether what they read is records.
 ghost use mathlib.Core.Path.{_≡_};
 ghost use mathlib.Core.Bool.{cond};
 ghost use Prim.Native.Nat.{_+_, _*_, _%_, _≤_};
@@ -50,4 +50,29 @@ pub fn refusal(number: u8, seen: u64) -> u64
     ensures { λ r. ⌜ r ≡ (1000 * number + seen) % 18446744073709551616 ⌝ }
 {
     std::num::wrapping_add_u64(1000 * (number as u64), seen)
+}
+
+// Is it one record or more, each of so many bytes and with one of these letters first?
+pub fn are_records(s: &[u8], width: usize, letters: &[u8]) -> bool {
+    if width == 0 {
+        return false;
+    }
+    if (s.len() == 0) | (s.len() % width != 0) {
+        return false;
+    }
+    for i in 0..s.len() {
+        if (i % width == 0) & !is_among(s[i], letters) {
+            return false;
+        }
+    }
+    true
+}
+
+fn is_among(b: u8, letters: &[u8]) -> bool {
+    for k in 0..letters.len() {
+        if letters[k] == b {
+            return true;
+        }
+    }
+    false
 }

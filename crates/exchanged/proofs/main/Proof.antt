@@ -13,23 +13,29 @@ slice-aggregate-read-full c = search needs
 read-full-requires : tie.Need-read-full-requires
 read-full-requires c κs = search needs
 
-slice-aggregate-are-known : tie.Need-slice-aggregate-are-known
-slice-aggregate-are-known c = search needs
+array-share-prefix-input : tie.Need-array-share-prefix-input
+array-share-prefix-input c = search needs
 
-are-known-requires : tie.Need-are-known-requires
-are-known-requires c κs = search needs
+slice-aggregate-are-records : tie.Need-slice-aggregate-are-records
+slice-aggregate-are-records c = search needs
 
-slice-aggregate-words : tie.Need-slice-aggregate-words
-slice-aggregate-words c = search needs
+slice-aggregate-are-records-2 : tie.Need-slice-aggregate-are-records-2
+slice-aggregate-are-records-2 c = search needs
 
-words-requires : tie.Need-words-requires
-words-requires c κs = search needs
+are-records-requires : tie.Need-are-records-requires
+are-records-requires c κs = search needs
 
 slice-aggregate-run : tie.Need-slice-aggregate-run
 slice-aggregate-run c = search needs
 
 run-requires : tie.Need-run-requires
 run-requires c κs = search needs
+
+slice-aggregate-words : tie.Need-slice-aggregate-words
+slice-aggregate-words c = search needs
+
+words-requires : tie.Need-words-requires
+words-requires c κs = search needs
 
 returns : tie.Need-returns
 returns c = search needs
@@ -44,11 +50,13 @@ main-spec =
     buffer-requires
     slice-aggregate-read-full
     read-full-requires
-    slice-aggregate-are-known
-    are-known-requires
-    slice-aggregate-words
-    words-requires
+    array-share-prefix-input
+    slice-aggregate-are-records
+    slice-aggregate-are-records-2
+    are-records-requires
     slice-aggregate-run
     run-requires
+    slice-aggregate-words
+    words-requires
     returns
     returns-2)
