@@ -6,17 +6,19 @@ use mathlib.Core.Path.{_≡_, refl, sym, subst}
 use mathlib.Core.List.{List, [], _∷_, _++_}
 use mathlib.Core.Bool.{true}
 use native.Mathlib.Omega.{arith}
+use Rattle.base.specs.Answer as answer
+use Rattle.producer.specs.Notices as usedNotices
 use Rattle.consumer.specs.declared.Checkpoint.{Checkpoint}
 use Rattle.queue.specs.History.{History, pubs, comps, reclaims, standing, waiting}
 use Rattle.queue.specs.History as said
 use Rattle.queue.specs.Promise.{Undoes, Asked, Each}
 use Rattle.queue.specs.Machine.{worldOf, historyOf}
 use Rattle.packed.specs.Calls.{nextId, pollUsed, turnUsed}
-use Rattle.packed.specs.Machine.{World, Given, packed, tellsOf, value}
+use Rattle.packed.specs.Machine.{World, Given, packed, submitsOf, tellsOf, value}
 use Rattle.packed.specs.Since.{Since, QuietAvail, QuietUsed}
-use Rattle.packed.proofs.Notified.{armAvail, armUsed, completesTold, told-of-submission, told-of-completion}
+use Rattle.packed.proofs.Notified.{armAvail, armUsed, completesTold, told-of-submission, told-since, told-of-completion}
 use Rattle.history.proofs.Computing.{computing}
-use Rattle.history.proofs.Ends.{three, world-three, does, submits, polls-for}
+use Rattle.history.proofs.Ends.{three, world-three, typed, does, submits, polls-for}
 use Rattle.history.proofs.Run.{g, calls-7, history-7, asked-7}
 
 rises : (a b : ℕ) → a ≡ 0 → b ≡ 1 → a < b
@@ -52,6 +54,13 @@ unfolding computing
 told-of-g =
     told-of-submission three calls-7 since-avail (subst (Each (Asked Undoes)) (sym said-avail) ((((asked-7, tt), tt), tt), tt)) none-waits quiet-avail
     (g .chain) refl (rises _ _ refl refl)
+
+-- `told-since`
+pub since-g : usedNotices.sinceOf (submitsOf before-g (g .chain) .end) (submitsOf before-g (g .chain) .ring) (before-g .prod .avail) ≡ answer.done (1 ∷ [])
+unfolding computing
+since-g =
+    told-since three calls-7 since-avail (subst (Each (Asked Undoes)) (sym said-avail) ((((asked-7, tt), tt), tt), tt)) none-waits quiet-avail
+    (g .chain) (typed (g .chain) refl refl) refl (rises _ _ refl refl)
 
 -- ---- the producer: armed; g is submitted and polled; then it is completed
 

@@ -49,9 +49,9 @@ use Rattle.queue.specs.History.{Chain, Item, Event, History, comps, reclaims, w
 use Rattle.queue.specs.History as said
 use Rattle.queue.specs.Promise.{Undoes, Asked, Each}
 use Rattle.queue.specs.Machine.{worldOf, historyOf}
-use Rattle.queue.proofs.Model.{Queue, model}
+use Rattle.queue.proofs.Model.{Queue, next, model}
 use Rattle.queue.proofs.Trace.{Link, link, allowed, waiting-is}
-use Rattle.packed.specs.Calls.{Own, Call, oneOf}
+use Rattle.packed.specs.Calls.{Own, Call, TypedChain, oneOf}
 use Rattle.packed.specs.Calls.{submitAvailable, submitAvailableWithNotify, submitOne, submitOneWithNotify, pollUsed, nextId, producerAsked, shouldNotifySince, turnUsed, enableUsedDesc, enableUsedForNext, pollAvailable, submitUsed, submitUsedWithNotify, peekAvailable, pollCheckpoint, rollbackPolls, consumerAsked, turnAvail, enableAvailDesc, enableAvailForNext, own, foreign}
 use Rattle.packed.specs.Machine.{World, Given, packed, either, no, numberOf, saysSubmitted, saysCompleted, submitsOf, tellsOf, afterMade, afterUsedTurn, afterAvailTurn, afterTaken, afterCompleted, afterRolled, ownSays, ownLeaves, says, leaves, value}
 use Rattle.packed.specs.Opening.{Opening, layoutOf, openedWorld, Run, historyIn, worldIn}
@@ -61,8 +61,9 @@ use Rattle.packed.proofs.Counts.{Used, ofItems, ofUsed, dones, tot}
 use Rattle.packed.proofs.Invariant.{Like, Match, c-sound, c-whole, p-sound, p-whole}
 use Rattle.packed.proofs.First.{laid-out}
 use Rattle.packed.proofs.Packed.{demand-3, like-queue}
+use Rattle.packed.proofs.Submits.{submit-good}
 use Rattle.packed.proofs.Astray.{refused-leaves}
-use Rattle.packed.proofs.Told.{Awaits, awaits-same, armed-awaits, submit-told, complete-told}
+use Rattle.packed.proofs.Told.{Awaits, awaits-same, armed-awaits, submit-told, submit-since, complete-told}
 
 -- ---- a stretch of calls keeps what each of them keeps
 
@@ -334,45 +335,64 @@ module _ (o : Opening) where
 
   -- ---- the law, for both ends
 
-  -- behind the consumer's arming at its next slot while no chain waits, with nothing published since: a submission with the question whether to
-  -- notify that is accepted and does not wrap (its avail cursor's head rises) answers yes, behind its ID
-  pub told-of-submission :
-      (before cs : List Given) → Each (Asked Undoes) (historyAfter (cs ++ (armAvail ∷ before))) → waiting (historyAfter before) ≡ []
-      → Since o QuietAvail (armAvail ∷ before) cs
-      → (c : Chain) → tellsOf (worldAfter (cs ++ (armAvail ∷ before))) c .answer .number ≡ 0
-      → worldAfter (cs ++ (armAvail ∷ before)) .prod .avail .head < tellsOf (worldAfter (cs ++ (armAvail ∷ before))) c .end .avail .head
-      → value 1 (tellsOf (worldAfter (cs ++ (armAvail ∷ before))) c .answer) ≡ 1
-  unfolding worldOf historyOf
-  told-of-submission before cs a none since c e up =
-      let v : World = worldAfter (cs ++ (armAvail ∷ before)) in
-      let m = like-queue (record { opening = o; calls = cs ++ (armAvail ∷ before); premise = a }) in
-      let t = madeGoes.tell-leaves (v .prod .avail) (submitsOf v c) in
-      let awaits : Awaits (l .device) (v .prod .avail) (v .ring) =
-      stretch o (λ (x : World). Awaits (l .device) (x .prod .avail) (x .ring)) QuietAvail avail-step (armAvail ∷ before) cs a since
-      (arm-avail before (premise-before cs (armAvail ∷ before) a .0) none) in
-      submit-told (v .prod) (v .ring) (v .ids) (v .counts) (c .addrs) (c .lens) (c .readable)
-      (subst (λ (x : Layout). Awaits (x .device) (v .prod .avail) (v .ring)) (sym (m .1 .p-layout)) awaits)
-      (sym (madeGoes.tell-number (v .prod .avail) (submitsOf v c)) ∙ e)
-      (omega (arith, up, ap (λ (x : made.Outcome). x .end .avail .head) t))
+  -- behind the consumer's arming at its next slot while no chain waits, with nothing published since
+  module _ (before cs : List Given) (a : Each (Asked Undoes) (historyAfter (cs ++ (armAvail ∷ before)))) (none : waiting (historyAfter before) ≡ [])
+      (since : Since o QuietAvail (armAvail ∷ before) cs) where
+    abbrev v : World
+    v = worldAfter (cs ++ (armAvail ∷ before))
 
-  -- behind the producer's arming at its next slot while no completion is owed to it, with nothing completed since: a completion with the question
-  -- whether to notify that is accepted and does not wrap answers yes
-  pub told-of-completion :
-      (before cs : List Given) → Each (Asked Undoes) (historyAfter (cs ++ (armUsed ∷ before))) → comps (historyAfter before) ≡ reclaims (historyAfter before)
-      → Since o QuietUsed (armUsed ∷ before) cs
-      → (id len : ℕ) → completesTold (worldAfter (cs ++ (armUsed ∷ before))) id len .answer .number ≡ 0
-      → worldAfter (cs ++ (armUsed ∷ before)) .cons .used .head < completesTold (worldAfter (cs ++ (armUsed ∷ before))) id len .end .used .head
-      → value 0 (completesTold (worldAfter (cs ++ (armUsed ∷ before))) id len .answer) ≡ 1
-  unfolding worldOf historyOf
-  told-of-completion before cs a none since id len e up =
-      let v : World = worldAfter (cs ++ (armUsed ∷ before)) in
-      let m = like-queue (record { opening = o; calls = cs ++ (armUsed ∷ before); premise = a }) in
-      let x = completeOf (v .cons) (v .ring) (v .heldCounts) id len in
-      let t = takenGoes.tell-leaves (v .cons .used) x in
-      let awaits : Awaits (l .driver) (v .cons .used) (v .ring) =
-      stretch o (λ (y : World). Awaits (l .driver) (y .cons .used) (y .ring)) QuietUsed used-step (armUsed ∷ before) cs a since
-      (arm-used before (premise-before cs (armUsed ∷ before) a .0) none) in
-      complete-told (v .cons) (v .ring) (v .heldCounts) id len
-      (subst (λ (y : Layout). Awaits (y .driver) (v .cons .used) (v .ring)) (sym (m .1 .c-layout)) awaits)
-      (sym (takenGoes.tell-number (v .cons .used) x) ∙ e)
-      (omega (arith, up, ap (λ (y : taken.Outcome). y .end .used .head) t))
+    avail-like : Match l v (model (historyAfter (cs ++ (armAvail ∷ before))))
+    avail-like = like-queue (record { opening = o; calls = cs ++ (armAvail ∷ before); premise = a })
+
+    avail-awaits : Awaits (v .prod .layout .device) (v .prod .avail) (v .ring)
+    unfolding worldOf historyOf
+    avail-awaits =
+        subst (λ (x : Layout). Awaits (x .device) (v .prod .avail) (v .ring)) (sym (avail-like .1 .p-layout))
+        (stretch o (λ (x : World). Awaits (l .device) (x .prod .avail) (x .ring)) QuietAvail avail-step (armAvail ∷ before) cs a since
+        (arm-avail before (premise-before cs (armAvail ∷ before) a .0) none))
+
+    -- a submission with the question whether to notify that is accepted and does not wrap (its avail cursor's head rises) answers yes, behind
+    -- its ID
+    pub told-of-submission :
+        (c : Chain) → tellsOf v c .answer .number ≡ 0 → v .prod .avail .head < tellsOf v c .end .avail .head → value 1 (tellsOf v c .answer) ≡ 1
+    told-of-submission c e up =
+        let t = madeGoes.tell-leaves (v .prod .avail) (submitsOf v c) in
+        submit-told (v .prod) (v .ring) (v .ids) (v .counts) (c .addrs) (c .lens) (c .readable) avail-awaits
+        (sym (madeGoes.tell-number (v .prod .avail) (submitsOf v c)) ∙ e)
+        (omega (arith, up, ap (λ (x : made.Outcome). x .end .avail .head) t))
+
+    -- where it was made without that question, should_notify_since says yes behind it, asked with the avail cursor before it
+    pub told-since :
+        (c : Chain) → TypedChain c → submitsOf v c .answer .number ≡ 0 → v .prod .avail .head < submitsOf v c .end .avail .head
+        → usedNotices.sinceOf (submitsOf v c .end) (submitsOf v c .ring) (v .prod .avail) ≡ done (1 ∷ [])
+    told-since c typed e up =
+        let q : Queue Checkpoint = model (historyAfter (cs ++ (armAvail ∷ before))) in
+        let b = submit-good l (laid-out o) (avail-like .0) v q (avail-like .1) c typed .1 in
+        let x : World = afterMade v (submitsOf v c) in
+        let y : Queue Checkpoint = next q (saysSubmitted c (submitsOf v c .answer)) in
+        submit-since (v .prod) (v .ring) (v .ids) (v .counts) (c .addrs) (c .lens) (c .readable) avail-awaits e up
+        (p-sound l (laid-out o) (b .0) x y (b .1)) (p-whole l (laid-out o) (b .0) x y (b .1))
+
+  -- behind the producer's arming at its next slot while no completion is owed to it, with nothing completed since
+  module _ (before cs : List Given) (a : Each (Asked Undoes) (historyAfter (cs ++ (armUsed ∷ before))))
+      (none : comps (historyAfter before) ≡ reclaims (historyAfter before)) (since : Since o QuietUsed (armUsed ∷ before) cs) where
+    abbrev u : World
+    u = worldAfter (cs ++ (armUsed ∷ before))
+
+    used-awaits : Awaits (u .cons .layout .driver) (u .cons .used) (u .ring)
+    unfolding worldOf historyOf
+    used-awaits =
+        subst (λ (x : Layout). Awaits (x .driver) (u .cons .used) (u .ring)) (sym (like-queue (record { opening = o; calls = cs ++ (armUsed ∷ before); premise = a }) .1 .c-layout))
+        (stretch o (λ (x : World). Awaits (l .driver) (x .cons .used) (x .ring)) QuietUsed used-step (armUsed ∷ before) cs a since
+        (arm-used before (premise-before cs (armUsed ∷ before) a .0) none))
+
+    -- a completion with the question whether to notify that is accepted and does not wrap answers yes
+    pub told-of-completion :
+        (id len : ℕ) → completesTold u id len .answer .number ≡ 0 → u .cons .used .head < completesTold u id len .end .used .head
+        → value 0 (completesTold u id len .answer) ≡ 1
+    told-of-completion id len e up =
+        let x = completeOf (u .cons) (u .ring) (u .heldCounts) id len in
+        let t = takenGoes.tell-leaves (u .cons .used) x in
+        complete-told (u .cons) (u .ring) (u .heldCounts) id len used-awaits
+        (sym (takenGoes.tell-number (u .cons .used) x) ∙ e)
+        (omega (arith, up, ap (λ (y : taken.Outcome). y .end .used .head) t))

@@ -3,7 +3,7 @@
 use Prim.Native.Nat.{ℕ, _+_, _-_, _/_, _%_, _≤_, _<_}
 use mathlib.Core.Path.{_≡_, sym, ap, ap₂, _∙_, subst}
 use mathlib.Core.Bool.{Bool, true, false, cond}
-use mathlib.Core.List.{List}
+use mathlib.Core.List.{List, [], _∷_}
 use native.Mathlib.Omega.{arith}
 use lib.Dec.{eqb}
 use lib.ListN.{length, getD}
@@ -21,14 +21,19 @@ use Rattle.event.proofs.Trips.{encode-length}
 use Rattle.notify.proofs.Passed.{passed-told}
 use Rattle.ring.specs.Events.{eventAt, armed, told}
 use Rattle.layout.specs.declared.Layout.{Layout}
+use Rattle.layout.specs.Layout.{outside}
 use Rattle.producer.specs.declared.RingProducer.{RingProducer}
+use Rattle.producer.specs.Record.{badRecord}
 use Rattle.producer.specs.Outcome as made
 use Rattle.producer.specs.Submit.{topOf, submitRefusal, elementOf, putChain, takenOf, submitOf}
 use Rattle.producer.specs.Tell as madeTold
+use Rattle.producer.specs.Notices.{sinceOf}
 use Rattle.producer.proofs.Submit.{submit-ready, submit-refused, submit-done}
 use Rattle.producer.proofs.Frame.{slot-in-table, chain-past}
 use Rattle.producer.proofs.Touch.{submit-clear}
-use Rattle.producer.proofs.Goes.{submitted-is, taken-is}
+use Rattle.producer.proofs.Ready as madeReady
+use Rattle.producer.proofs.Notices.{since-done}
+use Rattle.producer.proofs.Goes.{submitted-is, taken-is, since-goes}
 use Rattle.consumer.specs.declared.RingConsumer.{RingConsumer}
 use Rattle.consumer.specs.Outcome as taken
 use Rattle.consumer.specs.Complete.{completeRefusal, completedOf, completeOf, tellOf}
@@ -126,11 +131,11 @@ module _ (p : RingProducer) (ring ids counts addrs lens : List ℕ) (readable : 
   submit-accepted e =
       by-eq submit-no 0 (λ z. z) (λ z. absurd (z (sym (ap (λ (o : made.Outcome). o .answer .number) (submit-refused p ring ids counts addrs lens readable z)) ∙ e)))
 
-  pub submit-told :
+  -- its move is told
+  submit-yes :
       Awaits (p .layout .device) (p .avail) ring → submits .answer .number ≡ 0 → p .avail .head < submits .end .avail .head
-      → getD (madeTold.tellOf (p .avail) submits .answer .values) 1 0 ≡ 1
-  unfolding madeTold.tellOf
-  submit-told a e up =
+      → told (submits .end .layout .device) (submits .end .layout .size) (p .avail) (submits .end .avail) (submits .ring) ≡ true
+  submit-yes a e up =
       let z = submit-accepted e in
       let n = length addrs in
       let r = submit-ready p (length ring) ids counts n (length lens) readable z in
@@ -141,12 +146,26 @@ module _ (p : RingProducer) (ring ids counts addrs lens : List ℕ) (readable : 
       let went : submits .end .avail ≡ steps (p .layout .size) n (p .avail) = ap (λ (x : RingProducer). x .avail) (end ∙ taken-is p (put .past) n) ∙ past in
       let same : submits .end .layout ≡ p .layout = ap (λ (x : RingProducer). x .layout) (end ∙ taken-is p (put .past) n) in
       let area = submit-clear p ring ids counts addrs lens readable z (p .layout .device) 4 (r .sound .laid .table-device) in
-      let yes : told (submits .end .layout .device) (submits .end .layout .size) (p .avail) (submits .end .avail) (submits .ring) ≡ true =
       ap₂ (λ (m : Layout) (c : RingCursor). told (m .device) (m .size) (p .avail) c (submits .ring)) same went
       ∙ moved-told (p .layout .device) (p .layout .size) n (p .avail) (submits .ring) (awaits-same (p .layout .device) (p .avail) ring (submits .ring) area a)
       (r .sound .laid .high) (omega (arith, r .room, r .sound .free)) (r .sound .avail)
-      (omega (arith, up, ap (λ (c : RingCursor). c .head) went)) in
-      simp (eq-eqb (submits .answer .number) 0 e, yes)
+      (omega (arith, up, ap (λ (c : RingCursor). c .head) went))
+
+  pub submit-told :
+      Awaits (p .layout .device) (p .avail) ring → submits .answer .number ≡ 0 → p .avail .head < submits .end .avail .head
+      → getD (madeTold.tellOf (p .avail) submits .answer .values) 1 0 ≡ 1
+  unfolding madeTold.tellOf
+  submit-told a e up = simp (eq-eqb (submits .answer .number) 0 e, submit-yes a e up)
+
+  -- and so says should_notify_since, asked with the cursor before it
+  pub submit-since :
+      Awaits (p .layout .device) (p .avail) ring → submits .answer .number ≡ 0 → p .avail .head < submits .end .avail .head
+      → badRecord (submits .end) ≡ false → outside (submits .end .layout) (length (submits .ring)) ≡ false
+      → sinceOf (submits .end) (submits .ring) (p .avail) ≡ answers.done (1 ∷ [])
+  submit-since a e up sound whole =
+      since-done (submits .end) (submits .ring) (p .avail)
+      (since-goes (submits .end) (length (submits .ring)) (p .avail) sound whole (omega (arith, up, madeReady.sound (submits .end) sound .avail)))
+      ∙ ap (λ (b : Bool). answers.done (answers.bit b ∷ [])) (submit-yes a e up)
 
 -- ---- a completion that is accepted
 
