@@ -97,32 +97,53 @@ not-completed i l a = refused-if NotCompleted a _ _ _ (λ z. z)
 
 -- ---- what each call keeps: the cursor that the other end's arming is about, and the bytes of that event area
 
+module _ (cursor : World → RingCursor) (place : ℕ) (w v : World) where
+  abbrev Keeps : Type 0
+  Keeps = (cursor v ≡ cursor w) × (getOf (v .ring) place 4 ≡ getOf (w .ring) place 4)
+
+  keeps-same : v ≡ w → Keeps
+  keeps-same e = (ap cursor e, ap (λ (x : World). getOf (x .ring) place 4) e)
+
+  keeps-awaits : Keeps → Awaits place (cursor w) (w .ring) → Awaits place (cursor v) (v .ring)
+  keeps-awaits k a =
+      subst (λ (x : RingCursor). Awaits place x (v .ring)) (sym (k .0)) (awaits-same place (cursor w) (w .ring) (v .ring) (k .1) a)
+
+abbrev availOf : World → RingCursor
+availOf w = w .prod .avail
+
+abbrev usedOf : World → RingCursor
+usedOf w = w .cons .used
+
 module _ (l : Layout) (good : badLayout l ≡ false) (w : World) (p-layout : w .prod .layout ≡ l) (c-layout : w .cons .layout ≡ l) where
   abbrev KeepsAvail : World → Type 0
-  KeepsAvail v = (v .prod .avail ≡ w .prod .avail) × (getOf (v .ring) (l .device) 4 ≡ getOf (w .ring) (l .device) 4)
+  KeepsAvail v = Keeps availOf (l .device) w v
 
   abbrev KeepsUsed : World → Type 0
-  KeepsUsed v = (v .cons .used ≡ w .cons .used) × (getOf (v .ring) (l .driver) 4 ≡ getOf (w .ring) (l .driver) 4)
+  KeepsUsed v = Keeps usedOf (l .driver) w v
 
   avail-same : (v : World) → v ≡ w → KeepsAvail v
-  avail-same v e = (ap (λ (x : World). x .prod .avail) e, ap (λ (x : World). getOf (x .ring) (l .device) 4) e)
+  avail-same = keeps-same availOf (l .device) w
 
   used-same : (v : World) → v ≡ w → KeepsUsed v
-  used-same v e = (ap (λ (x : World). x .cons .used) e, ap (λ (x : World). getOf (x .ring) (l .driver) 4) e)
+  used-same = keeps-same usedOf (l .driver) w
 
   -- the producer's notifications, and the consumer's
   notice-used :
       (f : ℕ) (r : List ℕ) → EventAlone (w .prod .layout .driver) (w .ring) r → KeepsAvail (afterUsedTurn w (usedNotices.noticeOf (w .prod) (w .ring) f r))
   unfolding usedNotices.noticeOf usedNotices.shadowOf
   notice-used f r a =
-      chosen (λ (x : made.Changed). KeepsAvail (afterUsedTurn w x)) (eqb (madeRecord.bytesRefusal (w .prod) (length (w .ring))) 0) (made.changed (done []) (usedNotices.shadowOf (w .prod) f) r) (made.changed (refused (madeRecord.bytesRefusal (w .prod) (length (w .ring)))) (w .prod) (w .ring))
+      let no = madeRecord.bytesRefusal (w .prod) (length (w .ring)) in
+      chosen (λ (x : made.Changed). KeepsAvail (afterUsedTurn w x)) (eqb no 0)
+      (made.changed (done []) (usedNotices.shadowOf (w .prod) f) r) (made.changed (refused no) (w .prod) (w .ring))
       (refl, a .clear (l .device) 4 (rw p-layout (laid l good .driver-device))) (refl, refl)
 
   notice-avail :
       (f : ℕ) (r : List ℕ) → EventAlone (w .cons .layout .device) (w .ring) r → KeepsUsed (afterAvailTurn w (availNotices.noticeOf (w .cons) (w .ring) f r))
   unfolding availNotices.noticeOf availNotices.shadowOf
   notice-avail f r a =
-      chosen (λ (x : taken.Changed). KeepsUsed (afterAvailTurn w x)) (eqb (takenRecord.bytesRefusal (w .cons) (length (w .ring))) 0) (taken.changed (done []) (availNotices.shadowOf (w .cons) f) r) (taken.changed (refused (takenRecord.bytesRefusal (w .cons) (length (w .ring)))) (w .cons) (w .ring))
+      let no = takenRecord.bytesRefusal (w .cons) (length (w .ring)) in
+      chosen (λ (x : taken.Changed). KeepsUsed (afterAvailTurn w x)) (eqb no 0)
+      (taken.changed (done []) (availNotices.shadowOf (w .cons) f) r) (taken.changed (refused no) (w .cons) (w .ring))
       (refl, a .clear (l .driver) 4 (rw c-layout (apart-other (laid l good .driver-device)))) (refl, refl)
     where
       apart-other : Apart (l .driver) 4 (l .device) 4 → Apart (l .device) 4 (l .driver) 4
@@ -150,11 +171,18 @@ module _ (l : Layout) (good : badLayout l ≡ false) (w : World) (p-layout : w .
   -- a poll and a rollback, not the used cursor
   poll-used : (outs louts : List ℕ) → KeepsUsed (afterTaken w (availPoll.pollOf (w .cons) (w .ring) (w .heldCounts) outs louts))
   unfolding availPoll.pollOf availPoll.polledOf availPoll.pastOf
-  poll-used outs louts = chosen (λ (x : availPoll.Taken). KeepsUsed (afterTaken w x)) (eqb (availPoll.pollRefusal (w .cons) (w .ring) (w .heldCounts) (length outs) (length louts)) 0) (availPoll.polledOf (w .cons) (w .ring) (availPoll.headOf (w .cons) (w .ring) .id) (availPoll.walkedOf (w .cons) (w .ring)) (w .heldCounts) outs louts) (availPoll.taken (refused (availPoll.pollRefusal (w .cons) (w .ring) (w .heldCounts) (length outs) (length louts))) (w .cons) (w .heldCounts) outs louts) (refl, refl) (refl, refl)
+  poll-used outs louts =
+      let no = availPoll.pollRefusal (w .cons) (w .ring) (w .heldCounts) (length outs) (length louts) in
+      chosen (λ (x : availPoll.Taken). KeepsUsed (afterTaken w x)) (eqb no 0)
+      (availPoll.polledOf (w .cons) (w .ring) (availPoll.headOf (w .cons) (w .ring) .id) (availPoll.walkedOf (w .cons) (w .ring)) (w .heldCounts) outs louts)
+      (availPoll.taken (refused no) (w .cons) (w .heldCounts) outs louts) (refl, refl) (refl, refl)
 
   roll-used : (c : Checkpoint) (js : List ℕ) → KeepsUsed (afterRolled w (rollbackOf (w .cons) (w .heldCounts) c js))
   unfolding rollbackOf backOf
-  roll-used c js = chosen (λ (x : taken.Rolled). KeepsUsed (afterRolled w x)) (eqb (rollbackRefusal (w .cons) (w .heldCounts) c js) 0) (taken.rolled (done []) (backOf (w .cons) c) (clearedOf (w .heldCounts) js)) (taken.rolled (refused (rollbackRefusal (w .cons) (w .heldCounts) c js)) (w .cons) (w .heldCounts)) (refl, refl) (refl, refl)
+  roll-used c js =
+      let no = rollbackRefusal (w .cons) (w .heldCounts) c js in
+      chosen (λ (x : taken.Rolled). KeepsUsed (afterRolled w x)) (eqb no 0)
+      (taken.rolled (done []) (backOf (w .cons) c) (clearedOf (w .heldCounts) js)) (taken.rolled (refused no) (w .cons) (w .heldCounts)) (refl, refl) (refl, refl)
 
   -- a completion writes a slot, and so does a submission
   complete-avail : (i n : ℕ) → KeepsAvail (afterCompleted w (completeOf (w .cons) (w .ring) (w .heldCounts) i n))
@@ -263,9 +291,7 @@ module _ (o : Opening) where
       → Awaits (l .device) (leaves w c .prod .avail) (leaves w c .ring)
   unfolding says leaves
   avail-step w q m (own c) s a =
-      let k = own-avail l (laid-out o) w (m .1 .p-layout) (m .1 .c-layout) c (s .0) (s .1) in
-      subst (λ (x : RingCursor). Awaits (l .device) x (ownLeaves w c .ring)) (sym (k .0))
-      (awaits-same (l .device) (w .prod .avail) (w .ring) (ownLeaves w c .ring) (k .1) a)
+      keeps-awaits availOf (l .device) w (ownLeaves w c) (own-avail l (laid-out o) w (m .1 .p-layout) (m .1 .c-layout) c (s .0) (s .1)) a
   avail-step w q m (foreign f) s a = a
 
   used-step :
@@ -273,9 +299,7 @@ module _ (o : Opening) where
       → Awaits (l .driver) (leaves w c .cons .used) (leaves w c .ring)
   unfolding says leaves
   used-step w q m (own c) s a =
-      let k = own-used l (laid-out o) w (m .1 .p-layout) (m .1 .c-layout) c (s .0) (s .1) in
-      subst (λ (x : RingCursor). Awaits (l .driver) x (ownLeaves w c .ring)) (sym (k .0))
-      (awaits-same (l .driver) (w .cons .used) (w .ring) (ownLeaves w c .ring) (k .1) a)
+      keeps-awaits usedOf (l .driver) w (ownLeaves w c) (own-used l (laid-out o) w (m .1 .p-layout) (m .1 .c-layout) c (s .0) (s .1)) a
   used-step w q m (foreign f) s a = a
 
   -- armed while nothing waits, at the slot that the other end fills next
