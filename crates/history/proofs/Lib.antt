@@ -4,3 +4,4 @@ pub mod Ends
 pub mod Run
 pub mod Without
 pub mod Again
+pub mod Notified

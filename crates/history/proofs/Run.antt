@@ -498,7 +498,7 @@ asked-5 = (((((asked-4, tt), tt), tt), tt), inl refl)
 asked-6 : Each (Asked Undoes) history-6
 asked-6 = ((((((((((asked-5, tt), tt), tt), tt), tt), tt), tt), tt), tt), tt)
 
-asked-7 : Each (Asked Undoes) history-7
+pub asked-7 : Each (Asked Undoes) history-7
 asked-7 = ((((asked-6, tt), tt), tt), tt)
 
 asked-8 : Each (Asked Undoes) history-8

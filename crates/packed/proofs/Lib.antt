@@ -17,4 +17,6 @@ pub mod Astray
 pub mod Promises
 pub mod Counted
 pub mod Reset
+pub mod Told
+pub mod Notified
 pub mod Tied

@@ -7,7 +7,6 @@ use mathlib.Core.Logic.{⊎-elim}
 use mathlib.Core.Bool.{false, _||_}
 use mathlib.Core.List.{List, []}
 use native.Mathlib.Omega.{arith}
-use lib.Dec.{ltb}
 use lib.ListN.{length, getD, replicate, length-replicate, getD-replicate}
 use lib.Seq.{sets}
 use borrow.Author.Tests.{le-ltb}

@@ -31,7 +31,8 @@ use Rattle.packed.specs.Calls.{Own, Foreign, Call, TypedCall, ProducerQu
 use Rattle.packed.specs.Calls.{producerNumFree, producerNumInflight, producerIsFull, producerLen, producerDescTable, producerAvailCursor, producerUsedCursor, consumerNumFree, consumerNumInflight, consumerIsFull, consumerLen, consumerAvailCursor, consumerUsedCursor}
 use Rattle.packed.specs.Calls.{submitAvailable, submitAvailableWithNotify, submitOne, submitOneWithNotify, pollUsed, nextId, producerAsked, shouldNotifySince, turnUsed, enableUsedDesc, enableUsedForNext, pollAvailable, submitUsed, submitUsedWithNotify, peekAvailable, pollCheckpoint, rollbackPolls, consumerAsked, turnAvail, enableAvailDesc, enableAvailForNext, producers, consumers, own, foreign}
 
--- the producer's last record and tables, the consumer's, and the ring's bytes
+-- the producer's last record and tables, the consumer's (`heldCounts`: for each ID, the slots of the chain that it holds under it), and the ring's
+-- bytes
 pub record World : Type 0 where
   pub prod : RingProducer
   pub ids : List ℕ

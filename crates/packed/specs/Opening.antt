@@ -13,9 +13,10 @@ use Rattle.queue.specs.Promise.{Undoes, Asked, Each}
 use Rattle.queue.specs.Machine.{worldOf, historyOf}
 use Rattle.packed.specs.Machine.{World, Given, packed}
 
--- both openings are accepted: any geometry that they take, in bytes of any length, with tables of any first contents and any length that
--- they take. "Over one zeroed ring": the descriptor table is zero. A zeroed ring is so; that its event areas and all other bytes are zero
--- too is not asked, since no sentence of demand 3 speaks of notifications
+-- what the two `new` are given, the producer's two tables and the consumer's one among it. Both openings are accepted: any geometry that they
+-- take, in bytes of any length, with tables of any first contents and any length that they take. "Over one zeroed ring": the descriptor table is
+-- zero. A zeroed ring is so; that its event areas and all other bytes are zero too is not asked, since no sentence of demand 3 speaks of
+-- notifications
 pub record Opening : Type 0 where
   pub size : ℕ
   pub table : ℕ
