@@ -9,7 +9,7 @@ use lib.Seq.{sets}
 use Rattle.base.specs.Answer.{done}
 use Rattle.cursor.specs.Cursor.{fresh, steps}
 use Rattle.layout.specs.Layout.{layout, apart, badLayout, outside}
-use Rattle.chain.specs.Chain.{badChain}
+use Rattle.chain.specs.Chain.{badSlices}
 use Rattle.ring.specs.Tables.{upTo, upFrom}
 use Rattle.producer.specs.declared.RingProducer.{RingProducer}
 use Rattle.producer.specs.Record as made
@@ -53,7 +53,7 @@ low-lens (suc zero) = omega arith
 low-lens (suc (suc i)) = omega arith
 
 accepted : submitRefusal four 72 (upTo 4) none 2 2 1 ≡ 0
-unfolding four none opened.freshOf submitRefusal made.badRecord made.badLent badLayout apart outside badChain upFrom
+unfolding four none opened.freshOf submitRefusal made.badRecord made.badLent badLayout apart outside badSlices upFrom
 accepted = refl
 
 pub bytes : List ℕ

@@ -2,7 +2,8 @@
 -- agree in what `see` takes off them.
 use mathlib.Core.Path.{_≡_}
 
--- K: the lifetimes, D: the arguments, R: the result, S: the parameters at exit, O: what is seen
+-- for all the same arguments (D, under lifetimes K), two results (R) with what stands behind the parameters at exit (S) that the
+-- contract P allows: what is seen of them is the same
 abbrev pub Determined : {K D R S O : Type 0} → (K → D → R → S → Type 0) → (R → S → O) → Type 0
 Determined {K} {D} {R} {S} P see =
     (κ : K) (a : D) (r r′ : R) (s s′ : S) → P κ a r s → P κ a r′ s′ → see r s ≡ see r′ s′

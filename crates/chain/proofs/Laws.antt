@@ -11,7 +11,7 @@ use borrow.Author.Tests.{le-leb, lt-leb, eqb-true, ltb-false, not-false}
 use Rattle.base.specs.Answer.{done, refused}
 use Rattle.base.specs.Part.{Slice, slice, part}
 use Rattle.base.proofs.Tests.{neither}
-use Rattle.chain.specs.Chain.{emptyEnd, readablesOf, writablesOf, badChain, checkOf}
+use Rattle.chain.specs.Chain.{emptyEnd, readablesOf, writablesOf, badSlices, checkOf}
 
 module _ (w n : ℕ) (s : Slice) where
   -- the first part begins where the slice does, and a part of no length is the empty end
@@ -47,11 +47,11 @@ module _ (w n : ℕ) (s : Slice) where
 
 -- the check, exit by exit
 module _ (addrs lens readable : ℕ) where
-  pub check-refused : badChain addrs lens readable ≡ true → checkOf addrs lens readable ≡ refused 8
+  pub check-refused : badSlices addrs lens readable ≡ true → checkOf addrs lens readable ≡ refused 8
   unfolding checkOf
   check-refused e = simp e
 
-  pub check-done : badChain addrs lens readable ≡ false → checkOf addrs lens readable ≡ done []
+  pub check-done : badSlices addrs lens readable ≡ false → checkOf addrs lens readable ≡ done []
   unfolding checkOf
   check-done e = simp e
 
@@ -60,8 +60,8 @@ pub record Good (addrs lens readable : ℕ) : Type 0 where
   pub equal : addrs ≡ lens
   pub within : readable ≤ addrs
 
-pub good : (addrs lens readable : ℕ) → badChain addrs lens readable ≡ false → Good addrs lens readable
-unfolding badChain
+pub good : (addrs lens readable : ℕ) → badSlices addrs lens readable ≡ false → Good addrs lens readable
+unfolding badSlices
 good addrs lens readable e =
     let b = neither (not (eqb addrs lens)) _ e in
     record {

@@ -22,9 +22,9 @@ writablesOf w n s =
     cond (leb n (length (s .elements))) (part w n (length (s .elements) - n) s) (emptyEnd w s)
 
 -- refusal 8: "chain slices of unequal length; readable count above the length"
-unfoldable pub badChain : ℕ → ℕ → ℕ → Bool
-badChain addrs lens readable = not (eqb addrs lens) || ltb addrs readable
+unfoldable pub badSlices : ℕ → ℕ → ℕ → Bool
+badSlices addrs lens readable = not (eqb addrs lens) || ltb addrs readable
 
 -- "a separate call gives the 8"
 unfoldable pub checkOf : ℕ → ℕ → ℕ → Answer
-checkOf addrs lens readable = cond (badChain addrs lens readable) (refused 8) (done [])
+checkOf addrs lens readable = cond (badSlices addrs lens readable) (refused 8) (done [])

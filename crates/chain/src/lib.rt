@@ -6,13 +6,13 @@ pub mod lens;
 ghost use mathlib.Core.Path.{_≡_};
 ghost use lib.ListN.{length};
 ghost use Rattle.base.specs.Answer.{answerOf};
-ghost use Rattle.chain.specs.Chain.{badChain, checkOf};
+ghost use Rattle.chain.specs.Chain.{badSlices, checkOf};
 use base::Reply;
 use base::RingError;
 
 // May slices of these lengths, with this count, be no chain? For a caller that has the lengths alone.
 pub fn is_bad(addrs: usize, lens: usize, readable: usize) -> bool
-    ensures { λ r. ⌜ r ≡ badChain addrs lens readable ⌝ }
+    ensures { λ r. ⌜ r ≡ badSlices addrs lens readable ⌝ }
 {
     (addrs != lens) | (addrs < readable)
 }

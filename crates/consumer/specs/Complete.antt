@@ -24,7 +24,8 @@ completeRefusal p bytes id counts =
     (cond (badLent p bytes (length counts)) 8
     (cond (leb (p .layout .size) id || (eqb (getD counts id 0) 0 || ltb (p .inflight) (getD counts id 0))) 5 0))
 
--- "writes address 0, the length and the ID at the used cursor", marked used in the cursor's round
+-- "writes address 0, the length and the ID at the used cursor", marked used in the cursor's round. WRITE is never set, as in the
+-- Rust; VIRTIO 1.1, 2.7.3 sets it where data was written (docs/DIFFERENCES.md)
 abbrev pub usedPut : RingConsumer → ℕ → ℕ → List ℕ → List ℕ
 usedPut p id len ring = slotPut (p .layout .table) (p .used) (markUsed (descriptor 0 len id 0) (p .used .wrap)) ring
 
@@ -39,6 +40,7 @@ completedOf p n =
       shadow = p .shadow;
     }
 
+-- submit_used: refused, and nothing changed, or one used slot for the chain, which is held no more
 unfoldable pub completeOf : RingConsumer → List ℕ → List ℕ → ℕ → ℕ → Outcome
 completeOf p ring counts id len =
     let no = completeRefusal p (length ring) id counts in
@@ -46,7 +48,7 @@ completeOf p ring counts id len =
     (outcome (done []) (completedOf p (getD counts id 0)) (usedPut p id len ring) (set counts id 0))
     (outcome (refused no) p ring counts)
 
--- success has one value: what the driver's event area, in the bytes that the completion left, asks of the move from the used
+-- submit_used_with_notify, of what submit_used left: success has one value, what the driver's event area, in the bytes that the completion left, asks of the move from the used
 -- cursor before it to the one behind it
 unfoldable pub tellOf : RingCursor → Outcome → Outcome
 tellOf old o =

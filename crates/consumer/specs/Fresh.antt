@@ -18,7 +18,7 @@ use Rattle.consumer.specs.declared.Opened.the-variants.{Ring, Refused}
 use Rattle.consumer.specs.Record.{lentRefusal}
 use Rattle.consumer.specs.Outcome.{Outcome, outcome}
 
--- everything fresh: both cursors, nothing in flight, notifications on
+-- everything fresh: both cursors, nothing in flight, the shadow at ENABLE, whatever the event area holds
 unfoldable pub freshOf : Layout → RingConsumer
 freshOf l =
     record {
@@ -61,6 +61,7 @@ openedAnswer (Refused e) = refused (numberOf e)
 abbrev pub zeroedOf : Layout → List ℕ → List ℕ
 zeroedOf l ring = putOf ring (l .device) (encodeOf (event 0 ENABLE)) .bytes
 
+-- the consumer's reset: refused, and nothing changed, or zeroed and everything fresh
 unfoldable pub resetOf : RingConsumer → List ℕ → List ℕ → Outcome
 resetOf p ring counts =
     let no = lentRefusal p (length ring) (length counts) in

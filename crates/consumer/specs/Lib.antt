@@ -1,7 +1,7 @@
 pub mod Record
 pub mod Outcome
+pub mod Fresh
 pub mod Poll
 pub mod Complete
 pub mod Rollback
 pub mod Notices
-pub mod Fresh

@@ -29,7 +29,16 @@ pub record Taken : Type 0 where
 abbrev pub taken : Answer → RingConsumer → List ℕ → List ℕ → List ℕ → Taken
 taken a p k x y = record { answer = a; end = p; counts = k; addrs = x; lens = y }
 
--- "7, 8, then 3": 8 also for "a poll output shorter than the size", 3 where the looked-at slot is not available; then the rest.
+-- "poll_available checks the head": the slot at the avail cursor. The chain's ID is the head's, as in the Rust; VIRTIO 1.1, 2.7.5
+-- has it in the last (docs/DIFFERENCES.md)
+abbrev pub headOf : RingConsumer → List ℕ → Descriptor
+headOf p ring = slotOf (p .layout .table) (p .avail) ring
+
+-- "then walks while NEXT is set, at most ring-size slots"
+abbrev pub walkedOf : RingConsumer → List ℕ → Walk
+walkedOf p ring = walkOf (p .layout .table) (p .layout .size) ring (p .layout .size) (start (p .avail))
+
+-- "7, 8, then 3": 8 also for "an ID table or poll output shorter than the size", 3 where the looked-at slot is not available; then the rest.
 -- "The condition of 3 on the head is read before INDIRECT."
 unfoldable pub headRefusal : RingConsumer → ℕ → Descriptor → ℕ → ℕ → ℕ → ℕ → ℕ
 headRefusal p bytes d counts addrs lens rest =
@@ -45,13 +54,7 @@ walkRefusal p w id counts =
     (cond (leb (p .layout .size) id
     || (not (eqb (getD counts id 0) 0) || ltb (p .layout .size) (p .inflight + w .count))) 5 0)
 
--- "checks the head, then walks while NEXT is set, at most ring-size slots"
-abbrev pub walkedOf : RingConsumer → List ℕ → Walk
-walkedOf p ring = walkOf (p .layout .table) (p .layout .size) ring (p .layout .size) (start (p .avail))
-
-abbrev pub headOf : RingConsumer → List ℕ → Descriptor
-headOf p ring = slotOf (p .layout .table) (p .avail) ring
-
+-- "7, 8, then 3, then 2 (slot by slot), then 5 for polls": the head's ladder, and behind it the walk's
 unfoldable pub pollRefusal : RingConsumer → List ℕ → List ℕ → ℕ → ℕ → ℕ
 pollRefusal p ring counts addrs lens =
     headRefusal p (length ring) (headOf p ring) (length counts) addrs lens
@@ -76,6 +79,7 @@ polledOf p ring id w counts addrs lens =
     taken (done (id ∷ w .count ∷ w .readable ∷ [])) (pastOf p (w .at) (w .count)) (set counts id (w .count))
     (sets addrs 0 (map addrOf ds)) (sets lens 0 (map lenOf ds))
 
+-- a poll: refused, and nothing changed, or the chain at the avail cursor taken
 unfoldable pub pollOf : RingConsumer → List ℕ → List ℕ → List ℕ → List ℕ → Taken
 pollOf p ring counts addrs lens =
     let no = pollRefusal p ring counts (length addrs) (length lens) in
@@ -92,7 +96,7 @@ abbrev pub polledRecord : Polled → RingConsumer
 polledRecord (Chain c p) = p
 polledRecord (Refused e p) = p
 
--- whether the slot that a poll would look at is available
+-- peek_available, "7, 8 for all else": whether the slot that a poll would look at is available
 unfoldable pub peekOf : RingConsumer → List ℕ → Answer
 peekOf p ring =
     let no = bytesRefusal p (length ring) in

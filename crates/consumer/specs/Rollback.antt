@@ -29,7 +29,7 @@ abbrev pub checkpointAnswer : Checkpointed → Answer
 checkpointAnswer (At cp) = done (checkpointValues cp)
 checkpointAnswer (Refused e) = refused (numberOf e)
 
--- 7 also for "a head not below the size, also in .. a checkpoint that is handed in"; 8 for counts shorter than the size; then the rest
+-- 7 also for "a head not below the size, also in an old cursor or checkpoint that is handed in"; 8 for counts shorter than the size; then the rest
 unfoldable pub handedRefusal : RingConsumer → Checkpoint → ℕ → ℕ → ℕ
 handedRefusal p cp counts rest =
     cond (badRecord p || (leb (p .layout .size) (cp .avail .head) || leb (p .layout .size) (cp .used .head))) 7
@@ -64,7 +64,7 @@ backOf p cp =
       shadow = p .shadow;
     }
 
--- the chains that the list names are polled no more
+-- rollback_polls: refused, and nothing changed, or the chains that the list names are polled no more
 unfoldable pub rollbackOf : RingConsumer → List ℕ → Checkpoint → List ℕ → Rolled
 rollbackOf p counts cp ids =
     let no = rollbackRefusal p counts cp ids in

@@ -28,7 +28,7 @@ has f m = eqb (f / m % 2) 1
 abbrev pub known : ℕ → ℕ
 known f = f % 8 + f / AVAIL % 2 * AVAIL + f / USED * USED
 
--- every bit but AVAIL and USED: the seven below AVAIL, and the seven between the two
+-- what marking keeps, every bit but AVAIL and USED: the seven below AVAIL, and the seven between the two
 abbrev pub others : ℕ → ℕ
 others f = f % 128 + f / 256 % 128 * 256
 

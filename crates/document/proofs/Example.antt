@@ -13,7 +13,7 @@ use Rattle.base.proofs.Words.{Bytes}
 use Rattle.cursor.specs.Cursor.{at, fresh, steps}
 use Rattle.event.specs.Event.{event}
 use Rattle.layout.specs.Layout.{layout, apart, badLayout, outside}
-use Rattle.chain.specs.Chain.{badChain}
+use Rattle.chain.specs.Chain.{badSlices}
 use Rattle.notify.specs.Notify.{notifyOf}
 use Rattle.ring.specs.Tables.{upTo, upFrom}
 use Rattle.virtio.specs.Chains.{slotAt, counterAt, ChainAt, UsedAt, Reached}
@@ -81,7 +81,7 @@ abbrev writer : RingProducer
 writer = record { layout = layout 4 0 64 68; avail = at 3 true; used = at 3 true; free = 4; height = 4; shadow = 0 }
 
 submits : submitRefusal writer 72 (upTo 4) none 2 2 1 ≡ 0
-unfolding none submitRefusal made.badRecord made.badLent badLayout apart outside badChain upFrom
+unfolding none submitRefusal made.badRecord made.badLent badLayout apart outside badSlices upFrom
 submits = refl
 
 pub sent : List ℕ

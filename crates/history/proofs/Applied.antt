@@ -13,7 +13,7 @@ use lib.ListN.{length, drop}
 use Rattle.base.specs.Answer as answer
 use Rattle.base.specs.Answer.{bit}
 use Rattle.cursor.specs.Cursor.{at}
-use Rattle.chain.specs.Chain.{badChain}
+use Rattle.chain.specs.Chain.{badSlices}
 use Rattle.producer.specs.Poll as usedPoll
 use Rattle.consumer.specs.declared.Checkpoint.{Checkpoint}
 use Rattle.consumer.specs.Poll.{pollOf}
@@ -244,7 +244,7 @@ abbrev submit-i : Given
 submit-i = submitsOne 49152 6 true refl refl
 
 pub gets-the-next : after 60 submit-i ≡ said.submitted i
-unfolding says ownSays out promised badChain
+unfolding says ownSays out promised badSlices
 gets-the-next =
     either-keeps (λ v. after 60 submit-i ≡ v → after 60 submit-i ≡ said.submitted i) (submitsOf (world 60) (i .chain) .answer) _ _
     (λ z. z ∙ ap (λ (n : ℕ). said.submitted (record { id = n; chain = i .chain })) (demand.next-is-given (first 61) (until 60) _ 0 (reads 60 submit-i refl _ z) refl))

@@ -8,7 +8,7 @@ use Rattle.desc.specs.Desc.{encodeOf, decodeOf, markAvail, markUsed}
 use Rattle.event.specs.Event as event
 use Rattle.notify.specs.Notify.{sub16, needEvent, awaited, notifyOf}
 use Rattle.layout.specs.Layout.{apart, badLayout, outside}
-use Rattle.chain.specs.Chain.{badChain}
+use Rattle.chain.specs.Chain.{badSlices}
 use Rattle.ring.specs.Slots.{slotOf, slotPut}
 use Rattle.ring.specs.Tables.{upFrom}
 use Rattle.ring.specs.Events.{turned, armed, told}
@@ -32,7 +32,7 @@ use Rattle.packed.specs.Machine.{ownSays, ownLeaves, says, leaves}
 
 -- bytes, cursors, descriptors, event areas and geometry
 unfoldable pub the-leaves : Unit {0}
-unfolding bytesOf wordAt putOf getOf step steps isAvail isUsed encodeOf decodeOf markAvail markUsed event.setFlags event.setDescEvent event.encodeOf event.decodeOf sub16 needEvent awaited notifyOf apart badLayout outside badChain
+unfolding bytesOf wordAt putOf getOf step steps isAvail isUsed encodeOf decodeOf markAvail markUsed event.setFlags event.setDescEvent event.encodeOf event.decodeOf sub16 needEvent awaited notifyOf apart badLayout outside badSlices
 the-leaves = tt
 
 -- slots, tables, chains and lists of IDs

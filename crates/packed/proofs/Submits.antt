@@ -17,7 +17,7 @@ use Rattle.desc.specs.Flags.{AVAIL, USED, has}
 use Rattle.desc.specs.Desc.{markAvail}
 use Rattle.layout.specs.declared.Layout.{Layout}
 use Rattle.layout.specs.Layout.{badLayout, outside}
-use Rattle.chain.specs.Chain.{badChain}
+use Rattle.chain.specs.Chain.{badSlices}
 use Rattle.chain.proofs.Laws.{good}
 use Rattle.ring.specs.Slots.{slotOf}
 use Rattle.producer.specs.declared.RingProducer.{RingProducer}
@@ -52,7 +52,7 @@ module _ (l : Layout) (laid-out : badLayout l ≡ false) where
     n = length (c .addrs)
 
     abbrev lent-good : Bool
-    lent-good = not (badChain (length (c .addrs)) (length (c .lens)) (c .readable))
+    lent-good = not (badSlices (length (c .addrs)) (length (c .lens)) (c .readable))
 
     -- a refused submission leaves the world as it was
     submit-no :
@@ -69,7 +69,7 @@ module _ (l : Layout) (laid-out : badLayout l ≡ false) where
         good
 
     -- ---- accepted
-    module _ (typed : TypedChain c) (fits-chain : badChain (length (c .addrs)) (length (c .lens)) (c .readable) ≡ false) (some-elements : 0 < n) (enough : n ≤ w .prod .free) where
+    module _ (typed : TypedChain c) (fits-chain : badSlices (length (c .addrs)) (length (c .lens)) (c .readable) ≡ false) (some-elements : 0 < n) (enough : n ≤ w .prod .free) where
       abbrev top : ℕ
       top = topOf (w .prod) (w .ids)
 
@@ -240,7 +240,7 @@ module _ (l : Layout) (laid-out : badLayout l ≡ false) where
     submit-good typed =
         let r = p-sound l laid-out ret w q k in
         let t = p-lent l laid-out ret w q k in
-        split (badChain (length (c .addrs)) (length (c .lens)) (c .readable))
+        split (badSlices (length (c .addrs)) (length (c .lens)) (c .readable))
         (λ b. submit-no 8 false (omega arith) (submit-bad-chain (w .prod) (length (w .ring)) (w .ids) (w .counts) n (length (c .lens)) (c .readable) r t b) (ap not b)
         (refl, (ret, like-look l laid-out ret w q k (said.refused (said.submit c) false 8) (k .promise))))
         (λ g.

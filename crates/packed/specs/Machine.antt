@@ -7,7 +7,7 @@ use lib.Dec.{ltb, leb, eqb}
 use lib.ListN.{length, getD, take}
 use Rattle.base.specs.Answer.{Answer, bit}
 use Rattle.cursor.specs.Cursor.{at, valuesOf}
-use Rattle.chain.specs.Chain.{badChain}
+use Rattle.chain.specs.Chain.{badSlices}
 use Rattle.ring.specs.Asked.{askOf}
 use Rattle.producer.specs.declared.RingProducer.{RingProducer}
 use Rattle.producer.specs.Outcome as made
@@ -85,7 +85,7 @@ no c good a = said.looked (said.refused c good (a .number))
 abbrev pub saysSubmitted : Chain → Answer → Event Checkpoint
 saysSubmitted c a =
     either a (said.submitted (record { id = value 0 a; chain = c }))
-    (no (said.submit c) (not (badChain (length (c .addrs)) (length (c .lens)) (c .readable))) a)
+    (no (said.submit c) (not (badSlices (length (c .addrs)) (length (c .lens)) (c .readable))) a)
 
 abbrev pub saysReclaimed : Answer → Event Checkpoint
 saysReclaimed a = either a (said.reclaimed (record { id = value 0 a; len = value 1 a })) (no said.reclaim true a)

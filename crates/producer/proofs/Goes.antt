@@ -18,7 +18,7 @@ use Rattle.desc.specs.Flags.{isUsed}
 use Rattle.event.specs.Event.{ENABLE}
 use Rattle.layout.specs.declared.Layout.{Layout}
 use Rattle.layout.specs.Layout.{badLayout, outside}
-use Rattle.chain.specs.Chain.{badChain}
+use Rattle.chain.specs.Chain.{badSlices}
 use Rattle.ring.specs.Events.{told}
 use Rattle.producer.specs.declared.RingProducer.{RingProducer}
 use Rattle.producer.specs.Record.{badRecord, badLent, bytesRefusal}
@@ -46,11 +46,11 @@ not-bad-lent p bytes ids counts o i k = simp (o, le-ltb ids (p .layout .size) i,
 
 module _ (p : RingProducer) (bytes : ℕ) (ids counts : List ℕ) (n lens readable : ℕ)
     (r : badRecord p ≡ false) (l : badLent p bytes (length ids) (length counts) ≡ false) where
-  pub submit-bad-chain : badChain n lens readable ≡ true → submitRefusal p bytes ids counts n lens readable ≡ 8
+  pub submit-bad-chain : badSlices n lens readable ≡ true → submitRefusal p bytes ids counts n lens readable ≡ 8
   unfolding submitRefusal
   submit-bad-chain c = simp (r, l, c)
 
-  module _ (c : badChain n lens readable ≡ false) where
+  module _ (c : badSlices n lens readable ≡ false) where
     pub submit-empty : n ≡ 0 → submitRefusal p bytes ids counts n lens readable ≡ 1
     unfolding submitRefusal
     submit-empty z = simp (r, l, c, eq-eqb n 0 z)

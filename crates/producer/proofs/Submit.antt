@@ -11,7 +11,7 @@ use borrow.Author.Tests.{eq-eqb, ne-eqb, eqb-true, eqb-false, ltb-false, leb-fal
 use Rattle.base.specs.Answer.{refused}
 use Rattle.base.proofs.Tests.{neither, positive}
 use Rattle.base.proofs.Ladder.{passed, both-passed, cond-lt, both-below}
-use Rattle.chain.specs.Chain.{badChain}
+use Rattle.chain.specs.Chain.{badSlices}
 use Rattle.chain.proofs.Laws.{Good, good}
 use Rattle.producer.specs.declared.RingProducer.{RingProducer}
 use Rattle.producer.specs.Outcome.{outcome}
@@ -34,7 +34,7 @@ module _ (p : RingProducer) (bytes : ℕ) (ids counts : List ℕ) (n lens readab
   pub submit-ready : submitRefusal p bytes ids counts n lens readable ≡ 0 → SubmitReady
   unfolding submitRefusal
   submit-ready e =
-      let e₁ = both-passed (badRecord p) (badLent p bytes (length ids) (length counts) || badChain n lens readable) _ e in
+      let e₁ = both-passed (badRecord p) (badLent p bytes (length ids) (length counts) || badSlices n lens readable) _ e in
       let e₂ = passed (eqb n 0) 1 _ (omega arith) (e₁ .1 .1) in
       let e₃ = passed (ltb (p .free) n) 3 _ (omega arith) (e₂ .1) in
       let e₄ = passed (eqb (p .height) 0) 4 _ (omega arith) (e₃ .1) in
@@ -55,7 +55,7 @@ module _ (p : RingProducer) (bytes : ℕ) (ids counts : List ℕ) (n lens readab
   pub submit-below : submitRefusal p bytes ids counts n lens readable < 9
   unfolding submitRefusal
   submit-below =
-      both-below (badRecord p) (badLent p bytes (length ids) (length counts) || badChain n lens readable) _
+      both-below (badRecord p) (badLent p bytes (length ids) (length counts) || badSlices n lens readable) _
       (cond-lt (eqb n 0) 1 _ (omega arith)
       (cond-lt (ltb (p .free) n) 3 _ (omega arith)
       (cond-lt (eqb (p .height) 0) 4 _ (omega arith)

@@ -20,7 +20,7 @@ use Rattle.producer.specs.declared.Opened.the-variants.{Ring, Refused}
 use Rattle.producer.specs.Record.{lentRefusal}
 use Rattle.producer.specs.Outcome.{Outcome, outcome}
 
--- everything fresh: both cursors, all slots and all IDs free, notifications on
+-- everything fresh: both cursors, all slots and all IDs free, the shadow at ENABLE, whatever the event area holds
 unfoldable pub freshOf : Layout → RingProducer
 freshOf l =
     record {
@@ -66,6 +66,7 @@ abbrev pub zeroedOf : Layout → List ℕ → List ℕ
 zeroedOf l ring =
     putOf (putOf ring (l .table) (replicate (16 * l .size) 0) .bytes) (l .driver) (encodeOf (event 0 ENABLE)) .bytes
 
+-- the producer's reset: refused, and nothing changed, or zeroed and everything fresh
 unfoldable pub resetOf : RingProducer → List ℕ → List ℕ → List ℕ → Outcome
 resetOf p ring ids counts =
     let no = lentRefusal p (length ring) (length ids) (length counts) in

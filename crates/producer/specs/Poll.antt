@@ -42,12 +42,13 @@ freedOf p n =
       shadow = p .shadow;
     }
 
--- a completion that is found: its ID and length
+-- a completion that is found: its ID and length. The length is taken whether WRITE is set or not, as in the Rust; VIRTIO 1.1, 2.7.4
+-- gives it a meaning with WRITE alone (docs/DIFFERENCES.md)
 unfoldable pub polledOf : RingProducer → Descriptor → List ℕ → List ℕ → List ℕ → Outcome
 polledOf p d ring ids counts =
     outcome (done (d .id ∷ d .len ∷ [])) (freedOf p (getD counts (d .id) 0)) ring (set ids (p .height) (d .id)) (set counts (d .id) 0)
 
--- "poll_used looks at the used cursor, takes the ID found there"
+-- "poll_used looks at the used cursor, takes the ID found there": refused, and nothing changed, or the completion taken
 unfoldable pub pollOf : RingProducer → List ℕ → List ℕ → List ℕ → Outcome
 pollOf p ring ids counts =
     let d = slotOf (p .layout .table) (p .used) ring in
@@ -70,6 +71,7 @@ nextRefusal p ids counts =
     (cond (eqb (p .height) 0) 4
     (cond (leb (p .layout .size) (topOf p ids) || not (eqb (getD counts (topOf p ids) 0) 0)) 5 0)))
 
+-- next_id: the ID on top of the stack, which the next submission gets
 unfoldable pub nextOf : RingProducer → List ℕ → List ℕ → Answer
 nextOf p ids counts =
     let no = nextRefusal p ids counts in

@@ -12,7 +12,7 @@ use Rattle.desc.specs.declared.Descriptor.{Descriptor}
 use Rattle.desc.specs.Flags.{NEXT, WRITE}
 use Rattle.desc.specs.Desc.{descriptor, markAvail}
 use Rattle.layout.specs.declared.Layout.{Layout}
-use Rattle.chain.specs.Chain.{badChain}
+use Rattle.chain.specs.Chain.{badSlices}
 use Rattle.ring.specs.Slots.{slotPut}
 use Rattle.producer.specs.declared.RingProducer.{RingProducer}
 use Rattle.producer.specs.declared.Submitted.{Submitted}
@@ -28,7 +28,7 @@ topOf p ids = getD ids (p .height - 1) 0
 unfoldable pub submitRefusal : RingProducer → ℕ → List ℕ → List ℕ → ℕ → ℕ → ℕ → ℕ
 submitRefusal p bytes ids counts n lens readable =
     cond (badRecord p) 7
-    (cond (badLent p bytes (length ids) (length counts) || badChain n lens readable) 8
+    (cond (badLent p bytes (length ids) (length counts) || badSlices n lens readable) 8
     (cond (eqb n 0) 1
     (cond (ltb (p .free) n) 3
     (cond (eqb (p .height) 0) 4
@@ -80,6 +80,7 @@ unfoldable pub submittedOf : RingProducer → List ℕ → List ℕ → ℕ → 
 submittedOf p ids counts n id w =
     outcome (done (id ∷ [])) (takenOf p (w .past) n) (w .bytes) ids (set counts id n)
 
+-- a submission: refused, and nothing changed, or the chain written at the avail cursor under the ID on top of the stack
 unfoldable pub submitOf : RingProducer → List ℕ → List ℕ → List ℕ → List ℕ → List ℕ → ℕ → Outcome
 submitOf p ring ids counts addrs lens readable =
     let no = submitRefusal p (length ring) ids counts (length addrs) (length lens) readable in

@@ -1,4 +1,4 @@
--- What is asked of an end's record: its values, or 7 where the record is bad.
+-- What is asked of an end's record (document 01: "7, 8 for all else"; these calls are lent nothing, so there is no 8).
 use Prim.Native.Nat.{ℕ}
 use mathlib.Core.List.{List, [], _∷_}
 use mathlib.Core.Bool.{Bool, cond}
@@ -14,6 +14,7 @@ use Rattle.ring.specs.declared.AskedBool.the-variants as whether
 use Rattle.ring.specs.declared.AskedCursor.the-variants as place
 use Rattle.ring.specs.declared.AskedTable.the-variants as table
 
+-- the values asked for, or 7 where the record is bad
 unfoldable pub askOf : Bool → List ℕ → Answer
 askOf bad vs = cond bad (refused 7) (done vs)
 

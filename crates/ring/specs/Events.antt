@@ -25,6 +25,6 @@ turned at shadow flags ring = cond (eqb shadow flags) ring (eventPut at (setFlag
 unfoldable pub armed : ℕ → ℕ → Bool → List ℕ → List ℕ
 armed at off wrap ring = eventPut at (setFlags (setDescEvent (eventAt at ring) off wrap) DESC) ring
 
--- whether the event area asks to be told of a move from old to new
+-- Notify: whether the event area asks to be told of a move from old to new
 unfoldable pub told : ℕ → ℕ → RingCursor → RingCursor → List ℕ → Bool
 told at size old new ring = notifyOf (eventAt at ring) size old new

@@ -25,7 +25,7 @@ unfoldable pub totalOf : List ℕ → List ℕ → ℕ
 totalOf counts [] = 0
 totalOf counts (id ∷ ids) = getD counts id 0 + totalOf counts ids
 
--- "7, 8, then 9 for rollback": 7 where the size is above 32,768 or `most` above the size, 8 where the table is "shorter than the
+-- the sum, with bounds of this helper's own (01's rule is the consumer's `rollbackRefusal`): 7 where the size is above 32,768 or `most` above the size, 8 where the table is "shorter than the
 -- size", 9 where an ID is bad or the sum is above `most`; else the sum
 unfoldable pub sumOf : ℕ → ℕ → List ℕ → List ℕ → Answer
 sumOf size most counts ids =
@@ -47,7 +47,7 @@ pub record Outcome : Type 0 where
 abbrev pub outcome : Answer → List ℕ → Outcome
 outcome a t = record { answer = a; counts = t }
 
--- the table with count 0 for each ID of the list
+-- what an accepted rollback leaves of the table: count 0 for each ID of the list
 unfoldable pub clearedOf : List ℕ → List ℕ → List ℕ
 clearedOf counts [] = counts
 clearedOf counts (id ∷ ids) = clearedOf (set counts id 0) ids

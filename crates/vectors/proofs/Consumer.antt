@@ -14,7 +14,7 @@ use Rattle.cursor.specs.Cursor.{at, step, steps}
 use Rattle.desc.specs.Flags.{isAvail, isUsed}
 use Rattle.desc.specs.Desc.{encodeOf, decodeOf, markAvail, markUsed}
 use Rattle.layout.specs.Layout.{layout, apart, badLayout, outside}
-use Rattle.chain.specs.Chain.{badChain}
+use Rattle.chain.specs.Chain.{badSlices}
 use Rattle.ring.specs.Slots.{slotOf, slotPut}
 use Rattle.ring.specs.Tables.{upTo, upFrom}
 use Rattle.walk.specs.Walk.{lookOf, walkOf, slotsFrom}
@@ -108,7 +108,7 @@ held = 0 ∷ 0 ∷ 0 ∷ 2 ∷ []
 
 -- what is unfolded to compute over bytes: these values, and the definitions that the contracts cite
 computing : Unit {0}
-unfolding fresh zeros none addrs lens holding held four opened.freshOf freshOf bytesOf wordAt putOf getOf step steps isAvail isUsed encodeOf decodeOf markAvail markUsed apart badLayout outside badChain slotOf slotPut upFrom lookOf walkOf slotsFrom named badIds totalOf clearedOf made.badRecord made.badLent submitRefusal elementOf putTails putChain takenOf submittedOf submitOf badRecord badLent headRefusal walkRefusal pollRefusal pastOf polls.polledOf pollOf completeRefusal completedOf completeOf handedRefusal staleOf rollbackRefusal backOf rollbackOf reclaims.pollRefusal reclaims.freedOf reclaims.polledOf reclaims.pollOf
+unfolding fresh zeros none addrs lens holding held four opened.freshOf freshOf bytesOf wordAt putOf getOf step steps isAvail isUsed encodeOf decodeOf markAvail markUsed apart badLayout outside badSlices slotOf slotPut upFrom lookOf walkOf slotsFrom named badIds totalOf clearedOf made.badRecord made.badLent submitRefusal elementOf putTails putChain takenOf submittedOf submitOf badRecord badLent headRefusal walkRefusal pollRefusal pastOf polls.polledOf pollOf completeRefusal completedOf completeOf handedRefusal staleOf rollbackRefusal backOf rollbackOf reclaims.pollRefusal reclaims.freedOf reclaims.polledOf reclaims.pollOf
 computing = tt
 
 pub record Exchange : Type 0 where

@@ -24,7 +24,7 @@ use Rattle.event.proofs.Trips as event-trips
 use Rattle.layout.specs.declared.Layout.{Layout}
 use Rattle.layout.specs.Layout.{layout, apart, badLayout, outside}
 use Rattle.layout.proofs.Laws.{Laid, laid, Within, within}
-use Rattle.chain.specs.Chain.{badChain}
+use Rattle.chain.specs.Chain.{badSlices}
 use Rattle.chain.proofs.Laws.{Good, good}
 use Rattle.notify.specs.Notify.{notifyOf}
 use Rattle.notify.specs.Passed.{Passed}
@@ -133,7 +133,7 @@ unfolding places outside
 fits = within places 80 refl
 
 chain : Good 3 3 2
-unfolding badChain
+unfolding badSlices
 chain = good 3 3 2 refl
 
 -- ---- notify, both ways: from (2, true) to (5, true) in a ring of eight, with (3, true) awaited

@@ -9,7 +9,7 @@ use Rattle.desc.specs.declared.Descriptor.{Descriptor}
 use Rattle.desc.specs.Flags.{isUsed}
 use Rattle.desc.specs.Desc.{descriptor}
 use Rattle.layout.specs.Layout.{layout, apart, badLayout, outside}
-use Rattle.chain.specs.Chain.{badChain}
+use Rattle.chain.specs.Chain.{badSlices}
 use Rattle.ring.specs.Tables.{upTo, upFrom}
 use Rattle.producer.specs.declared.RingProducer.{RingProducer}
 use Rattle.producer.specs.Record.{badRecord, badLent, bytesRefusal, lentRefusal}
@@ -37,7 +37,7 @@ unfolding openOf badLayout apart outside
 opens = open-ready 4 0 64 68 (replicate 72 0) (replicate 4 9) (replicate 5 9) refl
 
 pub submits : SubmitReady four 72 (upTo 4) (replicate 4 0) 2 2 1
-unfolding four freshOf submitRefusal badRecord badLent badLayout apart outside badChain upFrom
+unfolding four freshOf submitRefusal badRecord badLent badLayout apart outside badSlices upFrom
 submits = submit-ready four 72 (upTo 4) (replicate 4 0) 2 2 1 refl
 
 pub polls : PollReady out 72 found 4 (0 ∷ 0 ∷ 0 ∷ 1 ∷ [])
