@@ -10,6 +10,7 @@ use Rattle.base.proofs.pick.pick16.Reads as pick16
 use Rattle.base.proofs.pick.ends_by.Reads as ends-by
 use Rattle.base.proofs.pick.pick8.Reads as pick8
 use Rattle.base.proofs.pick.below.Reads as below
+use Rattle.base.proofs.pick.less.Reads as less
 use Rattle.base.proofs.pick.at16.Reads as at16
 use Rattle.base.proofs.pick.at32.Reads as at32
 use Rattle.base.proofs.pick.at64.Reads as at64
@@ -54,6 +55,9 @@ pick8-fixed = by-equation _ _ _ (λ κ a r s p. p)
 
 pub below-fixed : Determined below.Post (λ r s. r)
 below-fixed = by-equation _ _ _ (λ κ a r s p. p)
+
+pub less-fixed : Determined less.Post (λ r s. r)
+less-fixed = by-equation _ _ _ (λ κ a r s p. p)
 
 pub at16-fixed : Determined at16.Post (λ r s. r)
 at16-fixed = by-equation _ _ _ (λ κ a r s p. p)

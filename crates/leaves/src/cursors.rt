@@ -39,7 +39,7 @@ fn kept(size: u16, head: u16, wrap: bool, n: u16, want: u64) {
 fn lent(size: u16, head: u16, wrap: bool, n: u16, want: u64) {
     let m = in_place::advance_own(RingCursor { head, wrap }, size, n);
     let seen = std::num::wrapping_add_u64(1000000 * (m.number as u64), code(m.cursor));
-    tell::case(b"in_place", seen, want);
+    say::case(b"in_place", seen, want);
 }
 
 fn fresh(head: u16, wrap: bool, want: u64) {
