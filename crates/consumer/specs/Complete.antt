@@ -48,8 +48,8 @@ completeOf p ring counts id len =
     (outcome (done []) (completedOf p (getD counts id 0)) (usedPut p id len ring) (set counts id 0))
     (outcome (refused no) p ring counts)
 
--- submit_used_with_notify, of what submit_used left: success has one value, what the driver's event area, in the bytes that the completion left, asks of the move from the used
--- cursor before it to the one behind it
+-- submit_used_with_notify, of what submit_used left: success has one value, what the driver's event area, in the bytes that the
+-- completion left, asks of the move from the used cursor before it to the one behind it
 unfoldable pub tellOf : RingCursor → Outcome → Outcome
 tellOf old o =
     let yes = told (o .end .layout .driver) (o .end .layout .size) old (o .end .used) (o .ring) in

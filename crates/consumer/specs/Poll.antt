@@ -38,8 +38,8 @@ headOf p ring = slotOf (p .layout .table) (p .avail) ring
 abbrev pub walkedOf : RingConsumer → List ℕ → Walk
 walkedOf p ring = walkOf (p .layout .table) (p .layout .size) ring (p .layout .size) (start (p .avail))
 
--- "7, 8, then 3": 8 also for "an ID table or poll output shorter than the size", 3 where the looked-at slot is not available; then the rest.
--- "The condition of 3 on the head is read before INDIRECT."
+-- "7, 8, then 3": 8 also for "an ID table or poll output shorter than the size", 3 where the looked-at slot is not available; then
+-- the rest. "The condition of 3 on the head is read before INDIRECT."
 unfoldable pub headRefusal : RingConsumer → ℕ → Descriptor → ℕ → ℕ → ℕ → ℕ → ℕ
 headRefusal p bytes d counts addrs lens rest =
     cond (badRecord p) 7

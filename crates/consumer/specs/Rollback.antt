@@ -29,7 +29,8 @@ abbrev pub checkpointAnswer : Checkpointed → Answer
 checkpointAnswer (At cp) = done (checkpointValues cp)
 checkpointAnswer (Refused e) = refused (numberOf e)
 
--- 7 also for "a head not below the size, also in an old cursor or checkpoint that is handed in"; 8 for counts shorter than the size; then the rest
+-- 7 also for "a head not below the size, also in an old cursor or checkpoint that is handed in"; 8 for counts shorter than the
+-- size; then the rest
 unfoldable pub handedRefusal : RingConsumer → Checkpoint → ℕ → ℕ → ℕ
 handedRefusal p cp counts rest =
     cond (badRecord p || (leb (p .layout .size) (cp .avail .head) || leb (p .layout .size) (cp .used .head))) 7

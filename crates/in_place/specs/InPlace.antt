@@ -7,8 +7,8 @@ use Rattle.base.specs.Answer.{Answer, done, refused}
 use Rattle.cursor.specs.declared.RingCursor.{RingCursor}
 use Rattle.cursor.specs.Cursor.{valuesOf, Outcome, outcome}
 
--- the answer that a number tells beside the cursor that is left: 0 is success, whose values are the cursor's, and any
--- other number is that refusal
+-- "a definition gives, for each of its cases, this paper's number and values": the answer that a number tells beside the cursor
+-- that is left. 0 is success, whose values are the cursor's, and any other number is that refusal
 unfoldable pub toldBy : ℕ → RingCursor → Answer
 toldBy n c = cond (eqb n 0) (done (valuesOf c)) (refused n)
 

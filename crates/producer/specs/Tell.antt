@@ -10,8 +10,8 @@ use Rattle.producer.specs.declared.SubmittedTold.{SubmittedTold}
 use Rattle.producer.specs.declared.SubmittedTold.the-variants.{Result, Refused}
 use Rattle.producer.specs.Outcome.{Outcome, outcome}
 
--- the submits with notify, of what the submission left: success has one value more, what the device's event area, in the bytes that the submission left, asks of the move from the
--- avail cursor before it to the one behind it
+-- the submits with notify, of what the submission left: success has one value more, what the device's event area, in the bytes
+-- that the submission left, asks of the move from the avail cursor before it to the one behind it
 unfoldable pub tellOf : RingCursor → Outcome → Outcome
 tellOf old o =
     let yes = told (o .end .layout .device) (o .end .layout .size) old (o .end .avail) (o .ring) in

@@ -1,2 +1,2 @@
--- What the contracts of `replay` cite.
+-- What the contracts of `replay_step` cite.
 pub mod Run

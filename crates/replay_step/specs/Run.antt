@@ -1,4 +1,4 @@
--- How a run goes on. Assumes nothing.
+-- How a run of a trace goes on (docs/TRACE.md: one record behind the other).
 use Prim.Native.Nat.{ℕ, _<_, _≤_}
 use Rattle.replay_step.specs.declared.Turn.{Turn}
 use Rattle.replay_step.specs.declared.Turn.the-variants.{On, Ended}

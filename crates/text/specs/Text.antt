@@ -1,4 +1,4 @@
--- Text that is put into a lent buffer.
+-- Text that is put into a lent buffer. No paper speaks of this: it is what programs print with.
 use Prim.Native.Nat.{ℕ, zero, suc, _+_, _-_, _/_, _%_}
 use Prim.Native.Char.{code}
 use Prim.Native.String.{String}

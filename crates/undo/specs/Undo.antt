@@ -25,8 +25,8 @@ unfoldable pub totalOf : List ℕ → List ℕ → ℕ
 totalOf counts [] = 0
 totalOf counts (id ∷ ids) = getD counts id 0 + totalOf counts ids
 
--- the sum, with bounds of this helper's own (01's rule is the consumer's `rollbackRefusal`): 7 where the size is above 32,768 or `most` above the size, 8 where the table is "shorter than the
--- size", 9 where an ID is bad or the sum is above `most`; else the sum
+-- the sum, with bounds of this helper's own (01's rule is the consumer's `rollbackRefusal`): 7 where the size is above 32,768 or
+-- `most` above the size, 8 where the table is "shorter than the size", 9 where an ID is bad or the sum is above `most`; else the sum
 unfoldable pub sumOf : ℕ → ℕ → List ℕ → List ℕ → Answer
 sumOf size most counts ids =
     cond (ltb 32768 size || ltb size most) (refused 7)

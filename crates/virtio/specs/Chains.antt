@@ -59,8 +59,8 @@ pub record ChainAt (bytes : List ℕ) (table size p n buffer : ℕ) (element : �
   pub last : ids (n - 1) ≡ buffer
 
 -- 2.7.5: the one used descriptor of a chain, at the device's position p: the chain's ID, the length that the device wrote
--- (2.7.4; the address is not used), WRITE if it wrote at all (2.7.3), the reserved flags 0, and used in the device's round at
--- that slot (2.7.1)
+-- (2.7.4, which gives it a meaning with WRITE alone; the address is not used), WRITE if it wrote at all (2.7.3), the reserved
+-- flags 0, and used in the device's round at that slot (2.7.1)
 pub record UsedAt (bytes : List ℕ) (table size p id len : ℕ) (wrote : Bool) : Type 0 where
   pub addr : ℕ
   pub flags : ℕ

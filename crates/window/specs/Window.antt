@@ -16,7 +16,8 @@ use Rattle.window.specs.declared.Slot.the-variants.{Holds, Nothing}
 abbrev pub window : RefT (List ℕ) → ℕ → Window
 window t n = record { table = t; size = n }
 
--- a slot as an answer's values: 1 and its four fields, or 0 where there is nothing
+-- "a definition gives, for each of its cases, this paper's number and values": 1 and the slot's four fields, or 0 where there is
+-- nothing
 abbrev pub answerOf : Slot → Answer
 answerOf (Holds d) = done (1 ∷ d .addr ∷ d .len ∷ d .id ∷ d .flags ∷ [])
 answerOf Nothing = done (0 ∷ [])
