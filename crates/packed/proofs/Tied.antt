@@ -1,5 +1,6 @@
 -- The machine's step is the function's contract: whatever result and exit the generated contract of a call allows, the machine says what is
--- read off that result and leaves that exit. So a contract that changes breaks this file, or goes through it into demand 3.
+-- read off that result and leaves that exit; of a question, and of whether to notify, the answer's values are the definition's too. So a
+-- contract that changes breaks this file, or goes through it into demand 3.
 -- Assumes nothing.
 use mathlib.Core.Path.{_≡_, refl, sym, ap, _∙_}
 use mathlib.Core.Bool.{true}
