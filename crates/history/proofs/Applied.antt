@@ -1,11 +1,14 @@
 -- Every named sentence of demand 3, applied at a point of the history of Run.antt where its premises hold. `until k` is what the first k calls
--- said (Run.antt `answers`), and `after k c` what the call c is answered then, which is not computed here: the theorem tells it, from what
--- was said before. Where a theorem speaks of what an answer shows, the answer is taken from `answers`, and what it shows is not computed.
+-- said (Run.antt `answers`), and `after k c` what the call c is answered then, which is not computed here. There are three kinds of theorem.
+-- One tells the answer from what was said before: `after k c ≡ ..`. One says what an answer of its kind must show, or that there is none; that the
+-- answer is of that kind remains its premise: `after k c ≡ .. → ..` (eleven: `peeks-no`, `peeks-yes`, `other-is-not`, `next-can-only`, `full`,
+-- `no-elements`, and `short-outputs` to `neither-of-them`). One says what an answer shows of what stood before it: the answer is taken from
+-- `answers`, and what it shows is not computed.
 -- Assumes nothing.
 use Prim.Native.Nat.{ℕ, zero, suc, _+_, _-_, _≤_, _<_}
 use mathlib.Core.Path.{_≡_, refl, sym, ap, _∙_, subst}
 use mathlib.Core.Logic.{_≢_, _⊎_, inl, inr}
-use mathlib.Core.List.{[], _∷_, _++_}
+use mathlib.Core.List.{List, [], _∷_, _++_}
 use mathlib.Core.Bool.{Bool, true, false, false≢true, _&&_}
 use native.Mathlib.Omega.{arith}
 use lib.Dec.{leb, eqb}
@@ -19,7 +22,7 @@ use Rattle.consumer.specs.declared.Checkpoint.{Checkpoint}
 use Rattle.consumer.specs.Poll.{pollOf}
 use Rattle.consumer.specs.Complete.{completeOf, tellOf}
 use Rattle.consumer.specs.Rollback.{rollbackOf}
-use Rattle.queue.specs.History.{Event, History, Poll, slotsOf, slotsIn, items, pubs, polls, comps, reclaims, standing, held, finished, out, promised, waiting}
+use Rattle.queue.specs.History.{Item, Event, History, Poll, slotsOf, slotsIn, items, pubs, polls, comps, reclaims, standing, held, finished, out, promised, waiting}
 use Rattle.queue.specs.History as said
 use Rattle.queue.specs.Promise.{Has, Unlike, Fine, Each}
 use Rattle.queue.specs.Sentences.{At, Stands, Literally, ItsOwn, ItsOwnBefore}
@@ -107,7 +110,7 @@ unfolding pubs
 none-waits = demand.poll-blocks (first 34) (until 33) 3 (spoken 34) .1
 
 -- `word-for-word`: the poll after the rollback gave a, publication 0, of which no poll stood
-pub again-the-oldest : At (a ∷ []) 0 a × (Stands (until 10) 0 → ⊥)
+pub again-the-oldest : At (pubs (until 10)) 0 a × (Stands (until 10) 0 → ⊥)
 unfolding pubs
 again-the-oldest = let l = subst (Each Literally) (spoken 11) (demand.word-for-word (first 11)) .1 in (l .0, l .1 .0)
 
@@ -117,8 +120,7 @@ unfolding pubs
 all-stand = subst (Each Literally) (spoken 34) (demand.word-for-word (first 34)) .1 .1
 
 -- `as-submitted`: the poll of f gave one of the published chains, readables first, as many lengths as addresses
-pub as-published : (p : ℕ) × (At (a ∷ b ∷ c ∷ d ∷ e ∷ f ∷ []) p f × Fine (f .chain))
-unfolding pubs
+pub as-published : (p : ℕ) × (At (pubs (until 41)) p f × Fine (f .chain))
 as-published = demand.as-submitted (first 42) (until 41) f (spoken 42)
 
 -- `peeks`: nothing is published, and peek_available can only say no; a waits, and it can only say yes
@@ -227,10 +229,17 @@ frees-two = demand.frees-its-own (first 24) (until 23) (done 2 32) (spoken 24) 0
 
 -- ---- submissions and IDs
 
--- `new-id`: i's ID is not that of g, which is completed and not yet returned, nor of h, which is held; none waits
-pub new-id-of-i : Unlike (i .id) (g ∷ []) × Unlike (i .id) (h ∷ []) × Unlike (i .id) []
-unfolding pubs reclaims finished held standing polls
+abbrev owed : History Checkpoint → List Item
+owed t = items (drop (length (reclaims t)) (finished t))
+
+-- `new-id`: i's ID is that of no chain that is completed and not yet returned, nor of one that is held, nor of one that waits
+pub new-id-of-i : Unlike (i .id) (owed (until 60)) × Unlike (i .id) (items (held (until 60))) × Unlike (i .id) (waiting (until 60))
 new-id-of-i = demand.new-id (first 61) (until 60) i (spoken 61)
+
+-- which are g, h and none
+these : (owed (until 60) ≡ g ∷ []) × (items (held (until 60)) ≡ h ∷ []) × (waiting (until 60) ≡ [])
+unfolding pubs reclaims finished held standing polls
+these = (refl, refl, refl)
 
 -- `next-is-free`: with g and h out next_id can only answer 0
 pub next-can-only : (n : ℕ) → after 58 next ≡ said.looked (said.nexted n) → n ≡ 0

@@ -15,8 +15,8 @@ use Rattle.queue.specs.Promise.{Undoes, Asked, Each}
 use Rattle.queue.specs.Machine.{worldOf, historyOf}
 use Rattle.packed.specs.Calls.{nextId, pollUsed, turnUsed}
 use Rattle.packed.specs.Machine.{World, Given, packed, submitsOf, tellsOf, value}
-use Rattle.packed.specs.Since.{Since, QuietAvail, QuietUsed}
-use Rattle.packed.proofs.Notified.{armAvail, armUsed, completesTold, told-of-submission, told-since, told-of-completion}
+use Rattle.packed.specs.Since.{Since, QuietAvail, QuietUsed, armAvail, armUsed, completesTold}
+use Rattle.packed.proofs.Notified.{told-of-submission, told-since, told-of-completion}
 use Rattle.history.proofs.Computing.{computing}
 use Rattle.history.proofs.Ends.{three, world-three, typed, does, submits, polls-for}
 use Rattle.history.proofs.Run.{g, calls-7, history-7, asked-7}

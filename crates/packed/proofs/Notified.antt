@@ -55,7 +55,7 @@ use Rattle.packed.specs.Calls.{Own, Call, TypedChain, oneOf}
 use Rattle.packed.specs.Calls.{submitAvailable, submitAvailableWithNotify, submitOne, submitOneWithNotify, pollUsed, nextId, producerAsked, shouldNotifySince, turnUsed, enableUsedDesc, enableUsedForNext, pollAvailable, submitUsed, submitUsedWithNotify, peekAvailable, pollCheckpoint, rollbackPolls, consumerAsked, turnAvail, enableAvailDesc, enableAvailForNext, own, foreign}
 use Rattle.packed.specs.Machine.{World, Given, packed, either, no, numberOf, saysSubmitted, saysCompleted, submitsOf, tellsOf, afterMade, afterUsedTurn, afterAvailTurn, afterTaken, afterCompleted, afterRolled, ownSays, ownLeaves, says, leaves, value}
 use Rattle.packed.specs.Opening.{Opening, layoutOf, openedWorld, Run, historyIn, worldIn}
-use Rattle.packed.specs.Since.{NotSubmitted, NotCompleted, OwnKeepsAvail, OwnKeepsUsed, QuietAvail, QuietUsed, Since}
+use Rattle.packed.specs.Since.{NotSubmitted, NotCompleted, OwnKeepsAvail, OwnKeepsUsed, QuietAvail, QuietUsed, Since, armAvail, armUsed, completesTold}
 use Rattle.packed.proofs.Position.{pos}
 use Rattle.packed.proofs.Counts.{Used, ofItems, ofUsed, dones, tot}
 use Rattle.packed.proofs.Invariant.{Like, Match, c-sound, c-whole, p-sound, p-whole}
@@ -255,17 +255,6 @@ module _ (l : Layout) (good : badLayout l ≡ false) (w : World) (p-layout : w .
   own-used enableAvailForNext s n = notice-avail DESC _ (armed-alone (w .cons .layout .device) (w .ring) (w .cons .avail .head) (w .cons .avail .wrap))
 
 -- ---- in a run
-
--- a completion with the question whether to notify
-abbrev pub completesTold : World → ℕ → ℕ → taken.Outcome
-completesTold w id len = tellOf (w .cons .used) (completeOf (w .cons) (w .ring) (w .heldCounts) id len)
-
--- the consumer arms at the slot that it polls next, the producer at the one that it looks at next
-abbrev pub armAvail : Given
-armAvail = record { call = own enableAvailForNext; typed = tt }
-
-abbrev pub armUsed : Given
-armUsed = record { call = own enableUsedForNext; typed = tt }
 
 none-owed : (ret : List Used) → length (dones ret) ≡ 0 → tot (ofUsed ret) ≡ 0
 none-owed [] e = refl

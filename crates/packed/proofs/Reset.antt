@@ -35,27 +35,11 @@ use Rattle.queue.specs.Machine.{historyOf}
 use Rattle.queue.proofs.Model.{Queue, model}
 use Rattle.packed.specs.Machine.{World, Given, packed, afterMade, afterCompleted}
 use Rattle.packed.specs.Opening.{Opening, layoutOf, openedWorld, Run, historyIn, worldIn}
-use Rattle.packed.specs.Reset.{producerReset, consumerReset, withProducerReset, withConsumerReset}
+use Rattle.packed.specs.Reset.{producerReset, consumerReset, withProducerReset, withConsumerReset, Reopened, ResetsOpen}
 use Rattle.packed.proofs.Counts.{Used}
 use Rattle.packed.proofs.Invariant.{Like, p-sound, p-lent, c-sound, c-lent}
 use Rattle.packed.proofs.First.{laid-out}
 use Rattle.packed.proofs.Packed.{demand-3, like-queue}
-
--- a world is that of two fresh openings of this one's geometry
-pub record Reopened (o : Opening) (v : World) : Type 0 where
-  pub again : Opening
-  pub same-layout : layoutOf again ≡ layoutOf o
-  pub opened : openedWorld again ≡ v
-
--- both ends reset in this world: each reset is accepted, as the first and as the second, and behind both, in either order, the ends are fresh
--- and the descriptor table is zero
-pub record ResetsOpen (o : Opening) (w : World) : Type 0 where
-  pub producer-first : producerReset w .answer ≡ done []
-  pub consumer-second : consumerReset (withProducerReset w) .answer ≡ done []
-  pub reopened : Reopened o (withConsumerReset (withProducerReset w))
-  pub consumer-first : consumerReset w .answer ≡ done []
-  pub producer-second : producerReset (withConsumerReset w) .answer ≡ done []
-  pub reopened-too : Reopened o (withProducerReset (withConsumerReset w))
 
 -- ---- the bytes
 

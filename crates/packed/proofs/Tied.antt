@@ -1,5 +1,6 @@
 -- The machine's step is the function's contract: whatever result and exit the generated contract of a call allows, the machine says what is
--- read off that result and leaves that exit. So a contract that changes breaks this file, or goes through it into demand 3.
+-- read off that result and leaves that exit; of a question, and of whether to notify, the answer's values are the definition's too. So a
+-- contract that changes breaks this file, or goes through it into demand 3.
 -- Assumes nothing.
 use mathlib.Core.Path.{_≡_, refl, sym, ap, _∙_}
 use mathlib.Core.Bool.{true}
@@ -7,6 +8,7 @@ use mathlib.Core.List.{List}
 use Prim.Native.Nat.{ℕ}
 use lib.Dec.{ltb}
 use denote.Ref.{now}
+use Rattle.base.specs.Answer.{Answer}
 use Rattle.event.specs.Event.{ENABLE, DISABLE}
 use Rattle.notify.specs.Notify as notified
 use Rattle.ring.specs.Asked.{countAnswer, boolAnswer, cursorAnswer, tableAnswer}
@@ -15,6 +17,7 @@ use Rattle.producer.specs.Outcome as made
 use Rattle.producer.specs.Submit as submits
 use Rattle.producer.specs.Tell as tells
 use Rattle.producer.specs.Poll as reclaims
+use Rattle.producer.specs.Notices as usedNotices
 use Rattle.consumer.specs.declared.RingConsumer.{RingConsumer}
 use Rattle.consumer.specs.declared.Checkpoint.{Checkpoint}
 use Rattle.consumer.specs.Outcome as takenOutcome
@@ -22,12 +25,13 @@ use Rattle.consumer.specs.Poll as polls
 use Rattle.consumer.specs.Complete as completes
 use Rattle.consumer.specs.Rollback as rollbacks
 use Rattle.queue.specs.History.{Event}
-use Rattle.packed.specs.Calls.{Own, oneOf}
+use Rattle.packed.specs.Calls.{Own, ProducerQuestion, ConsumerQuestion, oneOf}
 use Rattle.packed.specs.Calls.{producerNumFree, producerNumInflight, producerIsFull, producerLen, producerDescTable, producerAvailCursor, producerUsedCursor, consumerNumFree, consumerNumInflight, consumerIsFull, consumerLen, consumerAvailCursor, consumerUsedCursor}
 use Rattle.packed.specs.Calls.{submitAvailable, submitAvailableWithNotify, submitOne, submitOneWithNotify, pollUsed, nextId, producerAsked, shouldNotifySince, turnUsed, enableUsedDesc, enableUsedForNext, pollAvailable, submitUsed, submitUsedWithNotify, peekAvailable, pollCheckpoint, rollbackPolls, consumerAsked, turnAvail, enableAvailDesc, enableAvailForNext}
-use Rattle.packed.specs.Machine.{World, saysSubmitted, saysReclaimed, saysNext, saysQuiet, saysPolled, saysCompleted, saysPeeked, saysMarked, saysRolled, afterMade, afterUsedTurn, afterTaken, afterCompleted, afterRolled, afterAvailTurn, ownSays, ownLeaves}
+use Rattle.packed.specs.Machine.{World, producerAnswers, consumerAnswers, tellsOf, saysSubmitted, saysReclaimed, saysNext, saysQuiet, saysPolled, saysCompleted, saysPeeked, saysMarked, saysRolled, afterMade, afterUsedTurn, afterTaken, afterCompleted, afterRolled, afterAvailTurn, ownSays, ownLeaves}
 use Rattle.packed.specs.Opening.{Opening, producerOpens, consumerOpens, openedWorld}
 use Rattle.packed.specs.Reset.{producerReset, consumerReset, withProducerReset, withConsumerReset}
+use Rattle.packed.specs.Since.{completesTold}
 use Rattle.packed.proofs.First.{made-answer, taken-answer}
 use Rattle.producer.specs.Fresh as madeFresh
 use Rattle.producer.specs.declared.Opened.the-variants as madeOpened
@@ -89,6 +93,22 @@ withProducer w p r i k = record { prod = p; ids = i; counts = k; cons = w .cons;
 abbrev withConsumer : World → RingConsumer → List ℕ → List ℕ → World
 withConsumer w p r k = record { prod = w .prod; ids = w .ids; counts = w .counts; cons = p; heldCounts = k; ring = r }
 
+-- in this world a question of the producer's, and one of the consumer's, is answered this, values and all, and leaves the world as it was; an
+-- event keeps of such an answer only whether it is a refusal
+abbrev ProducerTells : World → ProducerQuestion → Answer → Type 0
+ProducerTells w q a = (producerAnswers w q ≡ a) × Step w (producerAsked q) (saysQuiet true a) w
+
+abbrev ConsumerTells : World → ConsumerQuestion → Answer → Type 0
+ConsumerTells w q a = (consumerAnswers w q ≡ a) × Step w (consumerAsked q) (saysQuiet true a) w
+
+producer-tells : (w : World) (q : ProducerQuestion) (a : Answer) → a ≡ producerAnswers w q → ProducerTells w q a
+unfolding ownSays ownLeaves
+producer-tells w q a p = (sym p, (ap (saysQuiet true) (sym p), refl))
+
+consumer-tells : (w : World) (q : ConsumerQuestion) (a : Answer) → a ≡ consumerAnswers w q → ConsumerTells w q a
+unfolding ownSays ownLeaves
+consumer-tells w q a p = (sym p, (ap (saysQuiet true) (sym p), refl))
+
 module _ (w : World) where
   pub made-submit-one-tied : Ties made-submit-one.Post (λ a r s. Step (withProducer w (a .0) (now (a .1 .0)) (now (a .1 .1 .0)) (now (a .1 .1 .1 .0))) (submitOne (a .1 .1 .1 .1 .0) (a .1 .1 .1 .1 .1 .0) (a .1 .1 .1 .1 .1 .1 .0)) (saysSubmitted (oneOf (a .1 .1 .1 .1 .0) (a .1 .1 .1 .1 .1 .0) (a .1 .1 .1 .1 .1 .1 .0)) (submits.submittedAnswer r)) (withProducer w (submits.submittedRecord r) (now (s .1 .0)) (now (a .1 .1 .0)) (now (s .1 .1 .1 .0))))
   unfolding ownSays ownLeaves
@@ -114,33 +134,26 @@ module _ (w : World) where
   unfolding ownSays ownLeaves
   made-next-id-tied κ a r s p = (ap saysNext (sym p), refl)
 
-  pub made-num-free-tied : Ties made-num-free.Post (λ a r s. Step (withProducer w (a .0) (w .ring) (w .ids) (w .counts)) (producerAsked producerNumFree) (saysQuiet true (countAnswer r)) (withProducer w (a .0) (w .ring) (w .ids) (w .counts)))
-  unfolding ownSays ownLeaves
-  made-num-free-tied κ a r s p = (ap (saysQuiet true) (sym p), refl)
+  pub made-num-free-tied : Ties made-num-free.Post (λ a r s. ProducerTells (withProducer w (a .0) (w .ring) (w .ids) (w .counts)) producerNumFree (countAnswer r))
+  made-num-free-tied κ a r s p = producer-tells (withProducer w (a .0) (w .ring) (w .ids) (w .counts)) producerNumFree (countAnswer r) p
 
-  pub made-num-inflight-tied : Ties made-num-inflight.Post (λ a r s. Step (withProducer w (a .0) (w .ring) (w .ids) (w .counts)) (producerAsked producerNumInflight) (saysQuiet true (countAnswer r)) (withProducer w (a .0) (w .ring) (w .ids) (w .counts)))
-  unfolding ownSays ownLeaves
-  made-num-inflight-tied κ a r s p = (ap (saysQuiet true) (sym p), refl)
+  pub made-num-inflight-tied : Ties made-num-inflight.Post (λ a r s. ProducerTells (withProducer w (a .0) (w .ring) (w .ids) (w .counts)) producerNumInflight (countAnswer r))
+  made-num-inflight-tied κ a r s p = producer-tells (withProducer w (a .0) (w .ring) (w .ids) (w .counts)) producerNumInflight (countAnswer r) p
 
-  pub made-is-full-tied : Ties made-is-full.Post (λ a r s. Step (withProducer w (a .0) (w .ring) (w .ids) (w .counts)) (producerAsked producerIsFull) (saysQuiet true (boolAnswer r)) (withProducer w (a .0) (w .ring) (w .ids) (w .counts)))
-  unfolding ownSays ownLeaves
-  made-is-full-tied κ a r s p = (ap (saysQuiet true) (sym p), refl)
+  pub made-is-full-tied : Ties made-is-full.Post (λ a r s. ProducerTells (withProducer w (a .0) (w .ring) (w .ids) (w .counts)) producerIsFull (boolAnswer r))
+  made-is-full-tied κ a r s p = producer-tells (withProducer w (a .0) (w .ring) (w .ids) (w .counts)) producerIsFull (boolAnswer r) p
 
-  pub made-len-tied : Ties made-len.Post (λ a r s. Step (withProducer w (a .0) (w .ring) (w .ids) (w .counts)) (producerAsked producerLen) (saysQuiet true (countAnswer r)) (withProducer w (a .0) (w .ring) (w .ids) (w .counts)))
-  unfolding ownSays ownLeaves
-  made-len-tied κ a r s p = (ap (saysQuiet true) (sym p), refl)
+  pub made-len-tied : Ties made-len.Post (λ a r s. ProducerTells (withProducer w (a .0) (w .ring) (w .ids) (w .counts)) producerLen (countAnswer r))
+  made-len-tied κ a r s p = producer-tells (withProducer w (a .0) (w .ring) (w .ids) (w .counts)) producerLen (countAnswer r) p
 
-  pub made-desc-table-tied : Ties made-desc-table.Post (λ a r s. Step (withProducer w (a .0) (w .ring) (w .ids) (w .counts)) (producerAsked producerDescTable) (saysQuiet true (tableAnswer r)) (withProducer w (a .0) (w .ring) (w .ids) (w .counts)))
-  unfolding ownSays ownLeaves
-  made-desc-table-tied κ a r s p = (ap (saysQuiet true) (sym p), refl)
+  pub made-desc-table-tied : Ties made-desc-table.Post (λ a r s. ProducerTells (withProducer w (a .0) (w .ring) (w .ids) (w .counts)) producerDescTable (tableAnswer r))
+  made-desc-table-tied κ a r s p = producer-tells (withProducer w (a .0) (w .ring) (w .ids) (w .counts)) producerDescTable (tableAnswer r) p
 
-  pub made-avail-cursor-tied : Ties made-avail-cursor.Post (λ a r s. Step (withProducer w (a .0) (w .ring) (w .ids) (w .counts)) (producerAsked producerAvailCursor) (saysQuiet true (cursorAnswer r)) (withProducer w (a .0) (w .ring) (w .ids) (w .counts)))
-  unfolding ownSays ownLeaves
-  made-avail-cursor-tied κ a r s p = (ap (saysQuiet true) (sym p), refl)
+  pub made-avail-cursor-tied : Ties made-avail-cursor.Post (λ a r s. ProducerTells (withProducer w (a .0) (w .ring) (w .ids) (w .counts)) producerAvailCursor (cursorAnswer r))
+  made-avail-cursor-tied κ a r s p = producer-tells (withProducer w (a .0) (w .ring) (w .ids) (w .counts)) producerAvailCursor (cursorAnswer r) p
 
-  pub made-used-cursor-tied : Ties made-used-cursor.Post (λ a r s. Step (withProducer w (a .0) (w .ring) (w .ids) (w .counts)) (producerAsked producerUsedCursor) (saysQuiet true (cursorAnswer r)) (withProducer w (a .0) (w .ring) (w .ids) (w .counts)))
-  unfolding ownSays ownLeaves
-  made-used-cursor-tied κ a r s p = (ap (saysQuiet true) (sym p), refl)
+  pub made-used-cursor-tied : Ties made-used-cursor.Post (λ a r s. ProducerTells (withProducer w (a .0) (w .ring) (w .ids) (w .counts)) producerUsedCursor (cursorAnswer r))
+  made-used-cursor-tied κ a r s p = producer-tells (withProducer w (a .0) (w .ring) (w .ids) (w .counts)) producerUsedCursor (cursorAnswer r) p
 
   pub made-should-notify-since-tied : Ties made-should-notify-since.Post (λ a r s. Step (withProducer w (a .0) (now (a .1 .0)) (w .ids) (w .counts)) (shouldNotifySince (a .1 .1 .0)) (saysQuiet (ltb ((a .1 .1 .0) .head) (a .0 .layout .size)) (notified.answerOf r)) (withProducer w (a .0) (now (a .1 .0)) (w .ids) (w .counts)))
   unfolding ownSays ownLeaves
@@ -186,29 +199,23 @@ module _ (w : World) where
   unfolding ownSays ownLeaves
   taken-rollback-polls-tied κ a r s p = (ap (λ (o : takenOutcome.Rolled). saysRolled (a .0 .layout .size) (a .1 .1 .0) (now (a .1 .1 .1 .0)) (o .answer)) (sym p), ap (afterRolled (withConsumer w (a .0) (w .ring) (now (a .1 .0)))) (sym p))
 
-  pub taken-num-free-tied : Ties taken-num-free.Post (λ a r s. Step (withConsumer w (a .0) (w .ring) (w .heldCounts)) (consumerAsked consumerNumFree) (saysQuiet true (countAnswer r)) (withConsumer w (a .0) (w .ring) (w .heldCounts)))
-  unfolding ownSays ownLeaves
-  taken-num-free-tied κ a r s p = (ap (saysQuiet true) (sym p), refl)
+  pub taken-num-free-tied : Ties taken-num-free.Post (λ a r s. ConsumerTells (withConsumer w (a .0) (w .ring) (w .heldCounts)) consumerNumFree (countAnswer r))
+  taken-num-free-tied κ a r s p = consumer-tells (withConsumer w (a .0) (w .ring) (w .heldCounts)) consumerNumFree (countAnswer r) p
 
-  pub taken-num-inflight-tied : Ties taken-num-inflight.Post (λ a r s. Step (withConsumer w (a .0) (w .ring) (w .heldCounts)) (consumerAsked consumerNumInflight) (saysQuiet true (countAnswer r)) (withConsumer w (a .0) (w .ring) (w .heldCounts)))
-  unfolding ownSays ownLeaves
-  taken-num-inflight-tied κ a r s p = (ap (saysQuiet true) (sym p), refl)
+  pub taken-num-inflight-tied : Ties taken-num-inflight.Post (λ a r s. ConsumerTells (withConsumer w (a .0) (w .ring) (w .heldCounts)) consumerNumInflight (countAnswer r))
+  taken-num-inflight-tied κ a r s p = consumer-tells (withConsumer w (a .0) (w .ring) (w .heldCounts)) consumerNumInflight (countAnswer r) p
 
-  pub taken-is-full-tied : Ties taken-is-full.Post (λ a r s. Step (withConsumer w (a .0) (w .ring) (w .heldCounts)) (consumerAsked consumerIsFull) (saysQuiet true (boolAnswer r)) (withConsumer w (a .0) (w .ring) (w .heldCounts)))
-  unfolding ownSays ownLeaves
-  taken-is-full-tied κ a r s p = (ap (saysQuiet true) (sym p), refl)
+  pub taken-is-full-tied : Ties taken-is-full.Post (λ a r s. ConsumerTells (withConsumer w (a .0) (w .ring) (w .heldCounts)) consumerIsFull (boolAnswer r))
+  taken-is-full-tied κ a r s p = consumer-tells (withConsumer w (a .0) (w .ring) (w .heldCounts)) consumerIsFull (boolAnswer r) p
 
-  pub taken-len-tied : Ties taken-len.Post (λ a r s. Step (withConsumer w (a .0) (w .ring) (w .heldCounts)) (consumerAsked consumerLen) (saysQuiet true (countAnswer r)) (withConsumer w (a .0) (w .ring) (w .heldCounts)))
-  unfolding ownSays ownLeaves
-  taken-len-tied κ a r s p = (ap (saysQuiet true) (sym p), refl)
+  pub taken-len-tied : Ties taken-len.Post (λ a r s. ConsumerTells (withConsumer w (a .0) (w .ring) (w .heldCounts)) consumerLen (countAnswer r))
+  taken-len-tied κ a r s p = consumer-tells (withConsumer w (a .0) (w .ring) (w .heldCounts)) consumerLen (countAnswer r) p
 
-  pub taken-avail-cursor-tied : Ties taken-avail-cursor.Post (λ a r s. Step (withConsumer w (a .0) (w .ring) (w .heldCounts)) (consumerAsked consumerAvailCursor) (saysQuiet true (cursorAnswer r)) (withConsumer w (a .0) (w .ring) (w .heldCounts)))
-  unfolding ownSays ownLeaves
-  taken-avail-cursor-tied κ a r s p = (ap (saysQuiet true) (sym p), refl)
+  pub taken-avail-cursor-tied : Ties taken-avail-cursor.Post (λ a r s. ConsumerTells (withConsumer w (a .0) (w .ring) (w .heldCounts)) consumerAvailCursor (cursorAnswer r))
+  taken-avail-cursor-tied κ a r s p = consumer-tells (withConsumer w (a .0) (w .ring) (w .heldCounts)) consumerAvailCursor (cursorAnswer r) p
 
-  pub taken-used-cursor-tied : Ties taken-used-cursor.Post (λ a r s. Step (withConsumer w (a .0) (w .ring) (w .heldCounts)) (consumerAsked consumerUsedCursor) (saysQuiet true (cursorAnswer r)) (withConsumer w (a .0) (w .ring) (w .heldCounts)))
-  unfolding ownSays ownLeaves
-  taken-used-cursor-tied κ a r s p = (ap (saysQuiet true) (sym p), refl)
+  pub taken-used-cursor-tied : Ties taken-used-cursor.Post (λ a r s. ConsumerTells (withConsumer w (a .0) (w .ring) (w .heldCounts)) consumerUsedCursor (cursorAnswer r))
+  taken-used-cursor-tied κ a r s p = consumer-tells (withConsumer w (a .0) (w .ring) (w .heldCounts)) consumerUsedCursor (cursorAnswer r) p
 
   pub taken-disable-avail-notifications-tied : Ties taken-disable-avail-notifications.Post (λ a r s. Step (withConsumer w (a .0) (now (a .1 .0)) (w .heldCounts)) (turnAvail DISABLE) (saysQuiet true (takenOutcome.answerOf r)) (withConsumer w (takenOutcome.recordOf r) (now (s .1 .0)) (w .heldCounts)))
   unfolding ownSays ownLeaves
@@ -225,6 +232,20 @@ module _ (w : World) where
   pub taken-enable-avail-notifications-for-next-tied : Ties taken-enable-avail-notifications-for-next.Post (λ a r s. Step (withConsumer w (a .0) (now (a .1 .0)) (w .heldCounts)) enableAvailForNext (saysQuiet true (takenOutcome.answerOf r)) (withConsumer w (takenOutcome.recordOf r) (now (s .1 .0)) (w .heldCounts)))
   unfolding ownSays ownLeaves
   taken-enable-avail-notifications-for-next-tied κ a r s p = (ap (λ (o : takenOutcome.Changed). saysQuiet true (o .answer)) (sym p), ap (afterAvailTurn (withConsumer w (a .0) (now (a .1 .0)) (w .heldCounts))) (sym p))
+
+  -- ---- whether to notify, of which an event keeps nothing: the whole answer is the definition's, which the laws of Notified.antt speak of
+
+  pub made-submit-available-with-notify-told : Ties made-submit-available-with-notify.Post (λ a r s. tellsOf (withProducer w (a .0) (now (a .1 .0)) (now (a .1 .1 .0)) (now (a .1 .1 .1 .0))) (record { addrs = (now (a .1 .1 .1 .1 .0)); lens = (now (a .1 .1 .1 .1 .1 .0)); readable = (a .1 .1 .1 .1 .1 .1 .0) }) .answer ≡ tells.toldAnswer r)
+  made-submit-available-with-notify-told κ a r s p = ap (λ (o : made.Outcome). o .answer) (sym p)
+
+  pub made-submit-one-with-notify-told : Ties made-submit-one-with-notify.Post (λ a r s. tellsOf (withProducer w (a .0) (now (a .1 .0)) (now (a .1 .1 .0)) (now (a .1 .1 .1 .0))) (oneOf (a .1 .1 .1 .1 .0) (a .1 .1 .1 .1 .1 .0) (a .1 .1 .1 .1 .1 .1 .0)) .answer ≡ tells.toldAnswer r)
+  made-submit-one-with-notify-told κ a r s p = ap (λ (o : made.Outcome). o .answer) (sym p)
+
+  pub made-should-notify-since-told : Ties made-should-notify-since.Post (λ a r s. usedNotices.sinceOf (a .0) (now (a .1 .0)) (a .1 .1 .0) ≡ notified.answerOf r)
+  made-should-notify-since-told κ a r s p = sym p
+
+  pub taken-submit-used-with-notify-told : Ties taken-submit-used-with-notify.Post (λ a r s. completesTold (withConsumer w (a .0) (now (a .1 .0)) (now (a .1 .1 .0))) (a .1 .1 .1 .0) (a .1 .1 .1 .1 .0) .answer ≡ completes.toldAnswer r)
+  taken-submit-used-with-notify-told κ a r s p = ap (λ (o : takenOutcome.Outcome). o .answer) (sym p)
 
   -- ---- the resets, which are no calls of the machine (packed/specs/Reset.antt)
 

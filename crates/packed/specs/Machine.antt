@@ -41,8 +41,8 @@ pub record World : Type 0 where
   pub heldCounts : List ℕ
   pub ring : List ℕ
 
--- ---- the answers of the producer's and the consumer's questions, as their contracts have them. The promise says nothing of the values; what
--- they count is told by packed/proofs/Counted.antt
+-- ---- the answers of the producer's and the consumer's questions, as their contracts have them (packed/proofs/Tied.antt). The promise says
+-- nothing of the values; what they count is told by packed/proofs/Counted.antt
 
 abbrev pub producerValues : ProducerQuestion → RingProducer → List ℕ
 producerValues producerNumFree p = p .free ∷ []

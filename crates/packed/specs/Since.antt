@@ -1,12 +1,15 @@
 -- The calls behind an arming, of which a notification's law speaks: nothing was published (or completed) since, and the end that armed has not
 -- turned or armed its notifications again.
+use Prim.Native.Nat.{ℕ}
 use mathlib.Core.List.{List, [], _∷_, _++_}
 use Rattle.consumer.specs.declared.Checkpoint.{Checkpoint}
+use Rattle.consumer.specs.Outcome as taken
+use Rattle.consumer.specs.Complete.{completeOf, tellOf}
 use Rattle.queue.specs.History.{Event, submitted, polled, completed, reclaimed, marked, rolled, looked}
 use Rattle.queue.specs.Machine.{worldOf}
 use Rattle.packed.specs.Calls.{Own, Call}
 use Rattle.packed.specs.Calls.{submitAvailable, submitAvailableWithNotify, submitOne, submitOneWithNotify, pollUsed, nextId, producerAsked, shouldNotifySince, turnUsed, enableUsedDesc, enableUsedForNext, pollAvailable, submitUsed, submitUsedWithNotify, peekAvailable, pollCheckpoint, rollbackPolls, consumerAsked, turnAvail, enableAvailDesc, enableAvailForNext, own, foreign}
-use Rattle.packed.specs.Machine.{Given, says, packed}
+use Rattle.packed.specs.Machine.{World, Given, says, packed}
 use Rattle.packed.specs.Opening.{Opening, openedWorld}
 
 -- no submission was accepted; no completion was
@@ -88,3 +91,16 @@ QuietUsed (foreign f) e = Unit
 abbrev pub Since : Opening → (Call → Event Checkpoint → Type 0) → List Given → List Given → Type 0
 Since o P before [] = Unit
 Since o P before (c ∷ cs) = Since o P before cs × P (c .call) (says (worldOf packed (openedWorld o) (cs ++ before)) (c .call))
+
+-- ---- the calls that the law speaks of
+
+-- the consumer arms at the slot that it polls next, the producer at the one that it looks at next
+abbrev pub armAvail : Given
+armAvail = record { call = own enableAvailForNext; typed = tt }
+
+abbrev pub armUsed : Given
+armUsed = record { call = own enableUsedForNext; typed = tt }
+
+-- a completion with the question whether to notify; a submission with it is `tellsOf` of Machine.antt
+abbrev pub completesTold : World → ℕ → ℕ → taken.Outcome
+completesTold w id len = tellOf (w .cons .used) (completeOf (w .cons) (w .ring) (w .heldCounts) id len)

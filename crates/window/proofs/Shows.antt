@@ -155,17 +155,25 @@ first-whole : 1 * 16 + 16 ≤ length zeros
 unfolding zeros
 first-whole = omega (arith, length-replicate {A = ℕ} 48 0)
 
-answered : Holds zero ≡ Holds zero
-answered =
-    by-contract ([], tt) lent 16 2 1 (omega arith) whole
-    (Holds zero) (lent, (16, (2, (1, tt)))) (sym looked)
+abbrev κ : Lfts 1
+κ = ([], tt)
+
+-- each contract allows an answer there, and no other
+allowed : slot-at.Post κ (lent, (16, (2, (1, tt)))) (Holds zero) (lent, (16, (2, (1, tt))))
+allowed = sym looked
+
+answered : (x : Slot) (sx : AtExit at.ended κ) → slot-at.Post κ (lent, (16, (2, (1, tt)))) x sx → x ≡ Holds zero
+answered x sx px =
+    by-contract κ lent 16 2 1 (omega arith) whole x sx px
     (getOf zeros (16 + 1 * 16) 16) (lent, (16 + 1 * 16, tt)) refl
     zero (getOf zeros (16 + 1 * 16) 16, tt) refl
 
-answered-slot : Holds first ≡ Holds first
-answered-slot =
-    slot-by-contract ([], tt) (window lent 2) 1 (omega arith) first-whole
-    (Holds first) (window lent 2, (1, tt)) (sym (shown zeros 2 1 (omega arith) first-whole))
+allowed-slot : SlotPost κ (window lent 2, (1, tt)) (Holds first) (window lent 2, (1, tt))
+allowed-slot = sym (shown zeros 2 1 (omega arith) first-whole)
+
+answered-slot : (x : Slot) (sx : AtExit slot.ended κ) → SlotPost κ (window lent 2, (1, tt)) x sx → x ≡ Holds first
+answered-slot x sx px =
+    slot-by-contract κ (window lent 2) 1 (omega arith) first-whole x sx px
     (getOf zeros (1 * 16) 16) (lent, (1 * 16, tt)) refl
     first (getOf zeros (1 * 16) 16, tt) refl
 
