@@ -1,17 +1,21 @@
 -- Dumps that are none, and some that are: every way of the header, and whole lines, computed.
 -- Assumes nothing.
 use Prim.Native.Nat.{ℕ}
-use mathlib.Core.Path.{_≡_, refl}
+use mathlib.Core.Path.{_≡_, refl, _∙_}
 use mathlib.Core.List.{List, [], _∷_, _++_}
+use native.Mathlib.Omega.{arith}
+use lib.ListN.{length, replicate}
 use Rattle.base.specs.Bytes.{wordAt}
 use Rattle.dump.specs.declared.Header.the-variants.{Ring, NoHeader, BadSize, TableOutside}
 use Rattle.base.specs.Bytes.{getOf}
 use Rattle.desc.specs.Flags.{isAvail, isUsed}
 use Rattle.desc.specs.Desc.{decodeOf}
-use Rattle.text.specs.Text.{words, digitsOf, hexOf}
+use Rattle.text.specs.Text.{words, digitsOf, hexOf, written, puts}
+use Rattle.text.proofs.Room.{room}
 use Rattle.dump.specs.Header.{headerOf}
 use Rattle.dump.specs.Names.{namesOf}
 use Rattle.dump.specs.Lines.{markText, flagTexts, slotTexts, wholeOf, ringLine, lineBy, lineOf}
+use Rattle.dump.proofs.Short.{line-fits}
 
 -- five bytes have no header
 pub short : headerOf (1 ∷ 0 ∷ 0 ∷ 0 ∷ 0 ∷ []) ≡ NoHeader
@@ -76,3 +80,15 @@ not-whole = refl
 pub nothing-more : lineOf dump 3 ≡ []
 unfolding lineBy ringLine wholeOf headerOf wordAt
 nothing-more = refl
+
+-- a slot whose bits are all set: as long as a slot's line gets
+abbrev pub full : List ℕ
+full = 1 ∷ 0 ∷ 0 ∷ 0 ∷ 0 ∷ 0 ∷ replicate 16 255
+
+pub full-slot : room (lineOf full 1) ≡ 104
+unfolding lineBy ringLine wholeOf headerOf wordAt getOf decodeOf slotTexts markText isAvail isUsed flagTexts namesOf words digitsOf hexOf
+full-slot = refl
+
+-- in a buffer of 160 bytes
+pub full-fits : puts (lineOf full 1) (written 0 (replicate 160 0)) .place ≡ 104
+full-fits = line-fits full (replicate 160 0) 1 (omega arith) ∙ full-slot

@@ -1,4 +1,5 @@
 pub mod Laws
 pub mod Lines
+pub mod Short
 pub mod Examples
 pub mod Fixed

@@ -15,7 +15,8 @@ sizeOf l = wordAt l 0 2
 abbrev pub tableOf : List ℕ → ℕ
 tableOf l = wordAt l 2 4
 
--- a size and a table that begins within the bytes behind the header; "Programs run rings of at most 2,048 slots"
+-- a size and a table that begins at or before the end of the bytes behind the header; "Programs run rings of at most 2,048
+-- slots"
 unfoldable pub headerOf : List ℕ → Header
 headerOf l =
     cond (ltb (length l) 6)

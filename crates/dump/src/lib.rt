@@ -59,8 +59,8 @@ pub fn flag_names(flags: u16) -> Names
     }
 }
 
-// Line k of what is shown of a dump, at the start of a lent buffer: how long it is, 0 where there is no such line. The
-// longest has 110 bytes, and one that does not fit is told by `text::LOST`.
+// Line k of what is shown of a dump, at the start of a lent buffer: how long it is, 0 where there is no such line. None has
+// more than 160 bytes (`line-short` in proofs/Short.antt); one that does not fit is told by `text::LOST`.
 pub fn line_of(input: &[u8], k: u16, out: &mut [u8]) -> usize
     ensures { λ r. ⌜ written r (now (out .exit)) ≡ puts (lineOf (now (input .entry)) k) (written 0 (now (out .entry))) ⌝ }
 {

@@ -1,12 +1,15 @@
 -- The definitions, computed: values that meet the premises of the laws.
 -- Assumes nothing.
+use Prim.Native.Nat.{_≤_}
 use mathlib.Core.Path.{_≡_, refl}
 use mathlib.Core.List.{[], _∷_}
 use native.Mathlib.Omega.{arith}
 use Rattle.io.specs.Digits.{digits, Fewest}
-use Rattle.text.specs.Text.{words, digitsOf, decimalOf, hexOf}
+use lib.ListN.{replicate}
+use Rattle.text.specs.Text.{words, digitsOf, decimalOf, rightOf, hexOf, written, puts}
 use Rattle.text.proofs.Decimal.{fewest-digits, at-most-20}
 use Rattle.text.proofs.Texts.{as-wide, hex-digits}
+use Rattle.text.proofs.Room.{room, right-short, texts-fit}
 
 -- 207 has three digits, and no fewer hold it
 pub three-digits : Fewest 10 1 207 3
@@ -30,3 +33,11 @@ as-hex = hex-digits 4 4 0x7f78 (digits 16 4 0x7f78) (omega arith) (omega arith) 
 pub in-words : hexOf 4 0x7f78 ≡ words "7f78"
 unfolding hexOf words
 in-words = refl
+
+-- two words of four bytes have room in four, and a column of five is no wider than twenty
+pub no-byte-over : puts (words "7f" ∷ words "78" ∷ []) (written 0 (replicate 4 0)) .place ≡ 4
+unfolding words
+no-byte-over = texts-fit (words "7f" ∷ words "78" ∷ []) (replicate 4 0) 0 (omega arith)
+
+pub column : room (rightOf 5 207) ≤ 20
+column = right-short 5 207 (omega arith)

@@ -32,7 +32,7 @@ numberOf end n = decimalOf n ++ (end ∷ [])
 abbrev pub blanksOf : ℕ → List ℕ
 blanksOf k = take k (replicate 20 32)
 
--- a number at the right of a column: blanks in front of it up to the column's width
+-- a number at the right of a column: blanks in front of it up to the column's width, at most twenty
 abbrev pub rightOf : ℕ → ℕ → List (List ℕ)
 rightOf width n = blanksOf (width - length (decimalOf n)) ∷ decimalOf n ∷ []
 

@@ -34,7 +34,8 @@ pub fn number(out: &mut [u8], n: usize, x: u64, end: u8) -> usize
     LOST
 }
 
-// A number in decimal at the right of a column; one that is wider takes the room that it needs.
+// A number in decimal at the right of a column, behind at most twenty blanks; one that is wider takes the room that it
+// needs.
 pub fn right(out: &mut [u8], n: usize, x: u64, width: usize) -> usize
     ensures { λ r. ⌜ written r (now (out .exit)) ≡ puts (rightOf width x) (written n (now (out .entry))) ⌝ }
 {
