@@ -45,32 +45,34 @@ flags-short : (f : ℕ) (names : Names) → room (flagTexts f names) ≤ 40
 unfolding flagTexts words
 flags-short f names =
     let unnamed : room (cond (eqb (names .unnamed) 0) [] (words " 0x" ∷ hexOf 4 (names .unnamed) ∷ [])) ≤ 7 =
-        chosen (λ (ts : List (List ℕ)). room ts ≤ 7) (eqb (names .unnamed) 0) [] (words " 0x" ∷ hexOf 4 (names .unnamed) ∷ [])
-        (omega arith)
-        (omega (arith, hex-length 4 (names .unnamed))) in
-    omega
-    (arith,
-     named-short (names .next) (words " NEXT"),
-     named-short (names .write) (words " WRITE"),
-     named-short (names .indirect) (words " INDIRECT"),
-     named-short (names .avail) (words " AVAIL"),
-     named-short (names .used) (words " USED"),
-     named-short (eqb f 0) (words " -"))
+    chosen (λ (ts : List (List ℕ)). room ts ≤ 7) (eqb (names .unnamed) 0) [] (words " 0x" ∷ hexOf 4 (names .unnamed) ∷ [])
+    (omega arith)
+    (omega (arith, hex-length 4 (names .unnamed))) in
+    omega (
+      arith,
+      named-short (names .next) (words " NEXT"),
+      named-short (names .write) (words " WRITE"),
+      named-short (names .indirect) (words " INDIRECT"),
+      named-short (names .avail) (words " AVAIL"),
+      named-short (names .used) (words " USED"),
+      named-short (eqb f 0) (words " -"),
+    )
 
 slot-short : (i : ℕ) (d : Descriptor) → room (slotTexts i d) ≤ 160
 unfolding slotTexts words
 slot-short i d =
     let flags = flagTexts (d .flags) (namesOf (d .flags)) in
-    omega
-    (arith,
-     right-short 5 i (omega arith),
-     right-short 12 (d .len) (omega arith),
-     right-short 7 (d .id) (omega arith),
-     hex-length 16 (d .addr),
-     mark-length (d .flags) true,
-     mark-length (d .flags) false,
-     flags-short (d .flags) (namesOf (d .flags)),
-     room-append flags (words "\n" ∷ []))
+    omega (
+      arith,
+      right-short 5 i (omega arith),
+      right-short 12 (d .len) (omega arith),
+      right-short 7 (d .id) (omega arith),
+      hex-length 16 (d .addr),
+      mark-length (d .flags) true,
+      mark-length (d .flags) false,
+      flags-short (d .flags) (namesOf (d .flags)),
+      room-append flags (words "\n" ∷ []),
+    )
 
 -- ---- the other lines
 
