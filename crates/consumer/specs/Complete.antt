@@ -55,6 +55,7 @@ tellOf old o =
     let yes = told (o .end .layout .driver) (o .end .layout .size) old (o .end .used) (o .ring) in
     outcome (valued (bit yes ∷ []) (o .answer)) (o .end) (o .ring) (o .counts)
 
+-- the answer's cases, in the paper's number and values, and the record that each hands back
 abbrev pub toldAnswer : CompletedTold → Answer
 toldAnswer (Notify b p) = done (bit b ∷ [])
 toldAnswer (Refused e p) = refused (numberOf e)

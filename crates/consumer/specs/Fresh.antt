@@ -53,6 +53,7 @@ openOf size table driver device ring counts =
     (cond (ltb (length counts) size) (opened (refused 8) counts)
     (opened (done (recordValues (freshOf l))) (sets counts 0 (replicate size 0))))
 
+-- the answer's cases, in the paper's number and values: a refused opening "gives the number alone"
 abbrev pub openedAnswer : Opened → Answer
 openedAnswer (Ring p) = done (recordValues p)
 openedAnswer (Refused e) = refused (numberOf e)

@@ -25,6 +25,7 @@ abbrev pub checkpointValues : Checkpoint → List ℕ
 checkpointValues cp =
     cp .avail .head ∷ bit (cp .avail .wrap) ∷ cp .used .head ∷ bit (cp .used .wrap) ∷ cp .inflight ∷ []
 
+-- the answer's cases, in the paper's number and values
 abbrev pub checkpointAnswer : Checkpointed → Answer
 checkpointAnswer (At cp) = done (checkpointValues cp)
 checkpointAnswer (Refused e) = refused (numberOf e)

@@ -118,12 +118,14 @@ abbrev pub fixedIn : List (ℕ × List Field) → ℕ → ℕ
 fixedIn [] op = 0
 fixedIn (r ∷ rs) op = cond (eqb op (r .0)) (1 + widthOf (r .1)) (fixedIn rs op)
 
+-- of the table's rows: the fields, and the bytes
 unfoldable pub fieldsOf : ℕ → List Field
 fieldsOf op = fieldsIn rows op
 
 unfoldable pub fixedOf : ℕ → ℕ
 fixedOf op = fixedIn rows op
 
+-- it holds of one of them
 abbrev pub anyOf : {A : Type 0} → (A → Bool) → List A → Bool
 anyOf f [] = false
 anyOf f (x ∷ xs) = f x || anyOf f xs
@@ -156,6 +158,7 @@ abbrev pub listOf : List ℕ → List (ℕ × ℕ) → ℕ
 listOf s [] = 0
 listOf s (p ∷ ps) = p .1 * wordAt s (p .0) 2 + listOf s ps
 
+-- of an op's own fields, behind its first byte
 unfoldable pub listBytes : ℕ → List ℕ → ℕ
 listBytes op s = listOf s (countsOf 1 (fieldsOf op))
 

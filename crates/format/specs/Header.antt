@@ -23,12 +23,14 @@ badHeader s =
     || (not (eqb (numberOf 0 s) 0x31515650)
     || (ltb 65535 (numberOf 1 s) || ltb 65536 (numberOf 5 s)))
 
+-- what a run needs of a header: how long the region is, how often its hash is told, how many records follow; or bad
 unfoldable pub headerOf : List ℕ → Found
 headerOf s =
     cond (badHeader s)
     found.Bad
     (found.Header (record { region = numberOf 5 s; every = numberOf 7 s; records = numberOf 8 s }))
 
+-- the number that the region's first bytes are made of
 unfoldable pub seedOf : List ℕ → ℕ
 seedOf s = numberOf 6 s
 

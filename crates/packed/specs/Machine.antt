@@ -82,14 +82,17 @@ either a yes-it no-it = cond (eqb (a .number) 0) yes-it no-it
 abbrev pub no : said.Call Checkpoint → Bool → Answer → Event Checkpoint
 no c good a = said.looked (said.refused c good (a .number))
 
+-- a submission of this chain: the ID that it got. Good are "chain slices" of equal length with a readable count within it
 abbrev pub saysSubmitted : Chain → Answer → Event Checkpoint
 saysSubmitted c a =
     either a (said.submitted (record { id = value 0 a; chain = c }))
     (no (said.submit c) (not (badSlices (length (c .addrs)) (length (c .lens)) (c .readable))) a)
 
+-- poll_used: the completion that it gave back
 abbrev pub saysReclaimed : Answer → Event Checkpoint
 saysReclaimed a = either a (said.reclaimed (record { id = value 0 a; len = value 1 a })) (no said.reclaim true a)
 
+-- next_id: the ID that it answered
 abbrev pub saysNext : Answer → Event Checkpoint
 saysNext a = either a (said.looked (said.nexted (value 0 a))) (no said.nextId true a)
 
@@ -108,19 +111,23 @@ saysPolled size outs louts t =
     }))
     (no said.poll (leb size (length outs) && leb size (length louts)) (t .answer))
 
+-- submit_used, with or without notify, of this ID and length
 abbrev pub saysCompleted : ℕ → ℕ → Answer → Event Checkpoint
 saysCompleted id len a =
     either a (said.completed (record { id = id; len = len })) (no (said.complete (record { id = id; len = len })) true a)
 
+-- peek_available: yes or no
 abbrev pub saysPeeked : Answer → Event Checkpoint
 saysPeeked a = either a (said.looked (said.peeked (eqb (value 0 a) 1))) (no said.other true a)
 
+-- poll_checkpoint: the checkpoint, out of its five values
 abbrev pub saysMarked : Answer → Event Checkpoint
 saysMarked a =
     either a
     (said.marked (record { avail = at (value 0 a) (eqb (value 1 a) 1); used = at (value 2 a) (eqb (value 3 a) 1); inflight = value 4 a }))
     (no said.other true a)
 
+-- rollback_polls with this checkpoint and list; good is a checkpoint whose heads are on the ring
 abbrev pub saysRolled : ℕ → Checkpoint → List ℕ → Answer → Event Checkpoint
 saysRolled size c js a =
     either a (said.rolled c js)
@@ -128,12 +135,14 @@ saysRolled size c js a =
 
 -- ---- what a call leaves: of the producer's
 
+-- a submission of a chain, and one with notify
 abbrev pub submitsOf : World → Chain → made.Outcome
 submitsOf w c = submitOf (w .prod) (w .ring) (w .ids) (w .counts) (c .addrs) (c .lens) (c .readable)
 
 abbrev pub tellsOf : World → Chain → made.Outcome
 tellsOf w c = madeTold.tellOf (w .prod .avail) (submitsOf w c)
 
+-- its record and tables, and the bytes; a notification's call leaves its tables alone
 abbrev pub afterMade : World → made.Outcome → World
 afterMade w o = record { prod = o .end; ids = o .ids; counts = o .counts; cons = w .cons; heldCounts = w .heldCounts; ring = o .ring }
 
@@ -142,6 +151,7 @@ afterUsedTurn w o = record { prod = o .end; ids = w .ids; counts = w .counts; co
 
 -- of the consumer's
 
+-- a poll leaves its record and counts; a completion the bytes too; a rollback no byte; a notification's call no count
 abbrev pub afterTaken : World → Taken → World
 afterTaken w t = record { prod = w .prod; ids = w .ids; counts = w .counts; cons = t .end; heldCounts = t .counts; ring = w .ring }
 

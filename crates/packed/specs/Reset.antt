@@ -1,4 +1,5 @@
--- Both ends reset, each given its own: the worlds after it, by the definitions that the contracts of the two `reset` cite
+-- "reset zeroes the table and the driver event, then everything is fresh"; "Its reset zeroes only the device event." Both ends
+-- reset, each given its own: the worlds after it, by the definitions that the contracts of the two `reset` cite
 -- (packed/proofs/Tied.antt). A reset is no call of a run; a run in which both ends are reset is two runs (packed/proofs/Reset.antt).
 use mathlib.Core.Path.{_≡_}
 use mathlib.Core.List.{[]}

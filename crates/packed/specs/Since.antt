@@ -1,4 +1,4 @@
--- The calls behind an arming, of which a notification's law speaks: nothing was published (or completed) since, and the end that armed has not
+-- (document 01, Notify; VIRTIO 1.1, 2.7.10) The calls behind an arming, of which a notification's law speaks: nothing was published (or completed) since, and the end that armed has not
 -- turned or armed its notifications again.
 use Prim.Native.Nat.{ℕ}
 use mathlib.Core.List.{List, [], _∷_, _++_}

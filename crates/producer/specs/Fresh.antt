@@ -57,6 +57,7 @@ openOf size table driver device ring ids counts =
     (cond (ltb (length ids) size || ltb (length counts) size) (opened (refused 8) ids counts)
     (opened (done (recordValues (freshOf l))) (sets ids 0 (upTo size)) (sets counts 0 (replicate size 0))))
 
+-- the answer's cases, in the paper's number and values: a refused opening "gives the number alone"
 abbrev pub openedAnswer : Opened → Answer
 openedAnswer (Ring p) = done (recordValues p)
 openedAnswer (Refused e) = refused (numberOf e)

@@ -55,6 +55,7 @@ pollOf p ring ids counts =
     let no = pollRefusal p (length ring) d (length ids) counts in
     cond (eqb no 0) (polledOf p d ring ids counts) (outcome (refused no) p ring ids counts)
 
+-- the answer's cases, in the paper's number and values, and the record that each hands back
 abbrev pub polledAnswer : PolledUsed → Answer
 polledAnswer (Used u p) = done (u .id ∷ u .len ∷ [])
 polledAnswer (Refused e p) = refused (numberOf e)
@@ -77,6 +78,7 @@ nextOf p ids counts =
     let no = nextRefusal p ids counts in
     cond (eqb no 0) (done (topOf p ids ∷ [])) (refused no)
 
+-- the answer's cases, in the paper's number and values
 abbrev pub nextAnswer : NextId → Answer
 nextAnswer (next.Id id) = done (id ∷ [])
 nextAnswer (next.Refused e) = refused (numberOf e)

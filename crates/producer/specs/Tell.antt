@@ -17,6 +17,7 @@ tellOf old o =
     let yes = told (o .end .layout .device) (o .end .layout .size) old (o .end .avail) (o .ring) in
     outcome (valued (getD (o .answer .values) 0 0 ∷ bit yes ∷ []) (o .answer)) (o .end) (o .ring) (o .ids) (o .counts)
 
+-- the answer's cases, in the paper's number and values, and the record that each hands back
 abbrev pub toldAnswer : SubmittedTold → Answer
 toldAnswer (Result r p) = done (r .id ∷ bit (r .notify) ∷ [])
 toldAnswer (Refused e p) = refused (numberOf e)
