@@ -8,14 +8,14 @@ use native.Mathlib.Omega.{arith}
 use mathlib.Core.List.{[], _∷_, _++_}
 use lib.Dec.{T}
 use Rattle.queue.specs.History.{Item, Done, Event, History, slotsIn, items, pubs, polls, comps, reclaims, standing, held, out, finished}
-use Rattle.queue.specs.History.{poll, reclaim, rollback, nexted, refused, submitted, polled, completed, reclaimed, marked, rolled, looked}
-use Rattle.queue.specs.Promise.{Undoes, UndoesAll, Asked, Each, Fifo}
-use Rattle.queue.specs.Sentences.{All, isPoll, Still, isReclaim, ItsOwn, sources, Literally}
-use Rattle.queue.proofs.Model.{Mark, next, model, Undo, UndoAll, AllOk}
-use Rattle.queue.proofs.Trace.{fifo}
+use Rattle.queue.specs.History.{poll, reclaim, rollback, nexted, refused, submitted, polled, completed, reclaimed, marked, rolled, unchanged}
+use Rattle.queue.specs.Promise.{Undoes, UndoesIntact, plain, Each, MayFollow, Right}
+use Rattle.queue.specs.Sentences.{All, isPoll, UndoesNothing, isReclaim, ItsOwn, sources, Oldest}
+use Rattle.queue.proofs.Model.{Mark, next, model, Undo, UndoIntact, AllOk}
+use Rattle.queue.proofs.Trace.{rightly, undo-all-of}
 use Rattle.queue.proofs.Ahead.{ahead}
 use Rattle.queue.proofs.Returned.{returned}
-use Rattle.queue.proofs.Literal.{literal}
+use Rattle.queue.proofs.Literal.{oldest-at}
 
 -- a chain of one element and one of two, on a ring of four slots
 abbrev a : Item
@@ -32,31 +32,31 @@ db = record { id = 2; len = 16 }
 
 -- next_id answers 3; both are submitted; a checkpoint, 7, is taken; the first is polled and rolled back
 abbrev begun : History ℕ
-begun = submitted b ∷ submitted a ∷ looked (nexted 3) ∷ []
+begun = submitted b ∷ submitted a ∷ unchanged (nexted 3) ∷ []
 
 abbrev rolledBack : History ℕ
 rolledBack = rolled 7 (3 ∷ []) ∷ polled a ∷ marked 7 ∷ begun
 
 -- a poll with outputs too short; the first is polled again; a rollback of nothing; the second is polled; a poll blocks
 abbrev pollings : History ℕ
-pollings = polled a ∷ rolled 7 [] ∷ looked (refused poll false 8) ∷ []
+pollings = polled a ∷ rolled 7 [] ∷ unchanged (refused poll false 8) ∷ []
 
 abbrev polledBoth : History ℕ
-polledBoth = looked (refused poll true 3) ∷ polled b ∷ (pollings ++ rolledBack)
+polledBoth = unchanged (refused poll true 3) ∷ polled b ∷ (pollings ++ rolledBack)
 
 -- the second is completed first; a rollback after it is refused; both come back in the order of completion; poll_used blocks
 abbrev completedBoth : History ℕ
 completedBoth = completed da ∷ completed db ∷ polledBoth
 
 abbrev reclaimings : History ℕ
-reclaimings = reclaimed db ∷ looked (refused (rollback 7 (2 ∷ 3 ∷ [])) true 9) ∷ []
+reclaimings = reclaimed db ∷ unchanged (refused (rollback 7 (2 ∷ 3 ∷ [])) true 9) ∷ []
 
 abbrev run : History ℕ
-run = looked (refused reclaim true 3) ∷ reclaimed da ∷ (reclaimings ++ completedBoth)
+run = unchanged (refused reclaim true 3) ∷ reclaimed da ∷ (reclaimings ++ completedBoth)
 
 -- ---- the queue allows it
 
-ok-begun : AllOk 4 begun
+ok-begun : AllOk (plain 4) begun
 unfolding model next
 ok-begun = (
   ((tt, (omega arith, (tt, (omega arith, λ j e. cc e)))), (omega arith, (tt, ((omega arith, (refl, omega arith)), (omega arith, λ i e. cc e))))),
@@ -68,19 +68,19 @@ undo-first : Undo (model (polled a ∷ marked 7 ∷ begun)) 7 (3 ∷ [])
 unfolding model next
 undo-first = record { mark = record { value = 7; polls = 0; comps = 0; stood = [] }; taken = inl refl; value = refl; same-comps = refl; names = λ y. refl }
 
-ok-rolled : AllOk 4 rolledBack
+ok-rolled : AllOk (plain 4) rolledBack
 unfolding model next
 ok-rolled = (((ok-begun, tt), (b ∷ [], refl)), undo-first)
 
-undo-none : Undo (model (looked (refused poll false 8) ∷ rolledBack)) 7 []
+undo-none : Undo (model (unchanged (refused poll false 8) ∷ rolledBack)) 7 []
 unfolding model next
 undo-none = record { mark = record { value = 7; polls = 0; comps = 0; stood = [] }; taken = inl refl; value = refl; same-comps = refl; names = λ y. refl }
 
-ok-polled : AllOk 4 polledBoth
+ok-polled : AllOk (plain 4) polledBoth
 unfolding model next
-ok-polled = (((((ok-rolled, refl), undo-none), (b ∷ [], refl)), ([], refl)), (refl, refl))
+ok-polled = (((((ok-rolled, (λ z. z, inl (tt, (refl, refl)))), undo-none), (b ∷ [], refl)), ([], refl)), (λ z. z, inr (refl, (refl, refl))))
 
-no-undo : UndoAll (model completedBoth) 7 (2 ∷ 3 ∷ []) → ⊥
+no-undo : UndoIntact (model completedBoth) 7 (2 ∷ 3 ∷ []) → ⊥
 unfolding model next
 no-undo u = go (u .undo .taken)
   where
@@ -88,10 +88,17 @@ no-undo u = go (u .undo .taken)
     go (inl e) = omega (arith, ap (λ (m : Mark ℕ). m .comps) e, u .undo .same-comps)
     go (inr z) = z
 
-ok-run : AllOk 4 run
+ok-completed : AllOk (plain 4) completedBoth
 unfolding model next
-ok-run =
-    ((((((ok-polled, inr (inl refl)), inl refl), (refl, no-undo)), (da ∷ [], refl)), ([], refl)), (refl, refl))
+ok-completed = ((ok-polled, inr (inl refl)), inl refl)
+
+-- a rollback after a completion need not be accepted
+not-due : UndoesIntact completedBoth 7 (2 ∷ 3 ∷ []) → ⊥
+not-due u = no-undo (undo-all-of (plain 4) completedBoth ok-completed 7 (2 ∷ 3 ∷ []) u)
+
+ok-run : AllOk (plain 4) run
+unfolding model next
+ok-run = ((((ok-completed, (not-due, inr (refl, refl))), (da ∷ [], refl)), ([], refl)), (λ z. z, inr (refl, (refl, refl))))
 
 -- ---- what it says
 
@@ -102,27 +109,27 @@ says = (refl, refl, refl, refl, refl, refl, refl)
 
 -- ---- the premise of the promise
 
-undoes-first : UndoesAll (polled a ∷ marked 7 ∷ begun) 7 (3 ∷ [])
+undoes-first : UndoesIntact (polled a ∷ marked 7 ∷ begun) 7 (3 ∷ [])
 unfolding comps standing polls
 undoes-first =
     record { undoes = record { since = polled a ∷ []; before = begun; took = refl; none-completed = refl; names = λ y. refl }; stand = refl }
 
-undoes-none : Undoes (looked (refused poll false 8) ∷ rolledBack) 7 []
+undoes-none : Undoes (unchanged (refused poll false 8) ∷ rolledBack) 7 []
 unfolding comps standing polls
 undoes-none =
     record {
-      since = looked (refused poll false 8) ∷ rolled 7 (3 ∷ []) ∷ polled a ∷ [];
+      since = unchanged (refused poll false 8) ∷ rolled 7 (3 ∷ []) ∷ polled a ∷ [];
       before = begun;
       took = refl;
       none-completed = refl;
       names = λ y. refl;
     }
 
-meets : Each (Asked Undoes) run
+meets : Each (MayFollow (plain 4)) run
 meets = (((((((((((((((((tt, tt), tt), tt), tt), tt), undoes-first .undoes), tt), undoes-none), tt), tt), tt), tt), tt), tt), tt), tt), tt)
 
-promised-run : Fifo 4 run
-promised-run = fifo 4 run ok-run
+answered-run : Each (Right (plain 4)) run
+answered-run = rightly (plain 4) run ok-run
 
 -- ---- `ahead`: b waits behind a; a poll that is not counted, a rollback of nothing and one poll later, the next poll gives b
 
@@ -130,14 +137,14 @@ behind : pubs rolledBack ≡ items (standing rolledBack) ++ ((a ∷ []) ++ (b �
 unfolding pubs standing
 behind = refl
 
-still : All Still pollings
-still = (tt, (refl, (tt, tt)))
+nothing-undone : All UndoesNothing pollings
+nothing-undone = (tt, (refl, (tt, tt)))
 
-arrives : (e : Event ℕ) → Fifo 4 (e ∷ (pollings ++ rolledBack)) → T (isPoll e) → e ≡ polled b
-arrives e f t = ahead 4 rolledBack (a ∷ []) [] b behind pollings e f still refl t
+arrives : (e : Event ℕ) → Each (Right (plain 4)) (e ∷ (pollings ++ rolledBack)) → T (isPoll e) → e ≡ polled b
+arrives e f t = ahead (plain 4) rolledBack (a ∷ []) [] b behind pollings e f nothing-undone refl t
 
-arrived : Fifo 4 (polled b ∷ (pollings ++ rolledBack))
-arrived = promised-run .0 .0 .0 .0 .0 .0 .0
+arrived : Each (Right (plain 4)) (polled b ∷ (pollings ++ rolledBack))
+arrived = answered-run .0 .0 .0 .0 .0 .0 .0
 
 -- ---- `returned`: the completion of a is behind that of b
 
@@ -145,16 +152,18 @@ behind-done : comps completedBoth ≡ reclaims completedBoth ++ ((db ∷ []) ++ 
 unfolding comps reclaims
 behind-done = refl
 
-comes-back : (e : Event ℕ) → Fifo 4 (e ∷ (reclaimings ++ completedBoth)) → T (isReclaim e) → e ≡ reclaimed da
-comes-back e f t = returned 4 completedBoth (db ∷ []) [] da behind-done reclaimings e f refl t
+comes-back : (e : Event ℕ) → Each (Right (plain 4)) (e ∷ (reclaimings ++ completedBoth)) → T (isReclaim e) → e ≡ reclaimed da
+comes-back e f t = returned (plain 4) completedBoth (db ∷ []) [] da behind-done reclaimings e f refl t
 
-came-back : Fifo 4 (reclaimed da ∷ (reclaimings ++ completedBoth))
-came-back = promised-run .0
+came-back : Each (Right (plain 4)) (reclaimed da ∷ (reclaimings ++ completedBoth))
+came-back = answered-run .0
 
--- ---- `literal`, and the reader's
+-- ---- `oldest-at`, and the reader's
 
-literal-run : Each Literally run
-literal-run = literal 4 run ok-run
+-- the last poll is of publication 1, and a poll of publication 0 stands
+oldest-b : Oldest (pollings ++ rolledBack) b 1
+unfolding pubs
+oldest-b = oldest-at (plain 4) (pollings ++ rolledBack) (ok-polled .0 .0) b (ok-polled .0 .1)
 
 -- the first completion that came back is of the second submission
 own-first : ItsOwn run 0 1

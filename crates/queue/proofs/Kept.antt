@@ -10,8 +10,8 @@ use mathlib.Core.List.{List, [], _∷_, _++_, append-assoc, append-nil}
 use lib.ListN.{length, drop}
 use lib.Dec.{T, eqb, eqb→eq, eqb-refl, T-not}
 use Rattle.queue.specs.History.{Item, Done, Event, History, Poll, slotsOf, slotsIn, items, ids, butLast, without, withoutItem, ofId, times, reclaims, standing, held, out, finished}
-use Rattle.queue.specs.History.{submitted, polled, completed, reclaimed, marked, rolled, looked}
-use Rattle.queue.specs.Promise.{Has, Unlike}
+use Rattle.queue.specs.History.{submitted, polled, completed, reclaimed, marked, rolled, unchanged}
+use Rattle.queue.specs.Promise.{Has, Unlike, Rules}
 use Rattle.queue.specs.Sentences.{All}
 use Rattle.queue.proofs.Model.{Queue, tail, Member, next, model, Ok, AllOk}
 use Rattle.queue.proofs.Listing.{on-test, all-append, all-left, all-right, all-map, items-append, ids-append, but-last-rest, one, one-same, one-other, times-cons, member-left, member-last}
@@ -182,9 +182,9 @@ module _ {C : Type 0} where
     pub old-in : All (λ (p : Poll). Member p (settled h)) (q .old)
     pub once : (n : ℕ) → times n (nos (finished h)) + times n (nos (q .old)) ≡ times n (nos (settled h))
 
-  served-completed : (size : ℕ) (h : History C) (q : Queue C) (d : Done) → Link h q → Served h q → Served (completed d ∷ h) (next q (completed d))
+  served-completed : (rules : Rules C) (h : History C) (q : Queue C) (d : Done) → Link h q → Served h q → Served (completed d ∷ h) (next q (completed d))
   unfolding settled finished next
-  served-completed size h q d l s =
+  served-completed rules h q d l s =
       let wider : (p : Poll) → Member p (settled h) → Member p (standing h) = λ p m. rw (l .stand) (member-left p (settled h) (q .fresh) m) in
       let fresh-in : All (λ (p : Poll). Member p (standing h)) (q .fresh) =
       all-map (λ (p : Poll). Member p (q .fresh)) (λ (p : Poll). Member p (standing h)) (λ p m. rw (l .stand) (member-right p (settled h) (q .fresh) m)) (q .fresh) (all-here (q .fresh)) in
@@ -213,20 +213,20 @@ module _ {C : Type 0} where
             );
       }
 
-  served-step : (size : ℕ) (h : History C) (q : Queue C) (e : Event C) → Link h q → Served h q → Served (e ∷ h) (next q e)
+  served-step : (rules : Rules C) (h : History C) (q : Queue C) (e : Event C) → Link h q → Served h q → Served (e ∷ h) (next q e)
   unfolding settled finished next
-  served-step size h q (submitted x) l s = record { finished-in = s .finished-in; old-in = s .old-in; once = s .once }
-  served-step size h q (polled x) l s = record { finished-in = s .finished-in; old-in = s .old-in; once = s .once }
-  served-step size h q (completed d) l s = served-completed size h q d l s
-  served-step size h q (reclaimed d) l s = record { finished-in = s .finished-in; old-in = s .old-in; once = s .once }
-  served-step size h q (marked c) l s = record { finished-in = s .finished-in; old-in = s .old-in; once = s .once }
-  served-step size h q (rolled c js) l s = record { finished-in = s .finished-in; old-in = s .old-in; once = s .once }
-  served-step size h q (looked k) l s = record { finished-in = s .finished-in; old-in = s .old-in; once = s .once }
+  served-step rules h q (submitted x) l s = record { finished-in = s .finished-in; old-in = s .old-in; once = s .once }
+  served-step rules h q (polled x) l s = record { finished-in = s .finished-in; old-in = s .old-in; once = s .once }
+  served-step rules h q (completed d) l s = served-completed rules h q d l s
+  served-step rules h q (reclaimed d) l s = record { finished-in = s .finished-in; old-in = s .old-in; once = s .once }
+  served-step rules h q (marked c) l s = record { finished-in = s .finished-in; old-in = s .old-in; once = s .once }
+  served-step rules h q (rolled c js) l s = record { finished-in = s .finished-in; old-in = s .old-in; once = s .once }
+  served-step rules h q (unchanged k) l s = record { finished-in = s .finished-in; old-in = s .old-in; once = s .once }
 
-  pub served : (size : ℕ) (h : History C) → AllOk size h → Served h (model h)
+  pub served : (rules : Rules C) (h : History C) → AllOk rules h → Served h (model h)
   unfolding settled finished model
-  served size [] o = record { finished-in = tt; old-in = tt; once = λ n. omega arith }
-  served size (e ∷ h) o = served-step size h (model h) e (link size h (o .0)) (served size h (o .0))
+  served rules [] o = record { finished-in = tt; old-in = tt; once = λ n. omega arith }
+  served rules (e ∷ h) o = served-step rules h (model h) e (link rules h (o .0)) (served rules h (o .0))
 
 -- ---- what is out
 
@@ -306,9 +306,9 @@ module _ {C : Type 0} where
         inside = rw (d, t) (k .inside);
       }
 
-  kept-submitted : (size : ℕ) (h : History C) (q : Queue C) (x : Item) → Ok size q (submitted x) → Kept h q → Kept (submitted x ∷ h) (next q (submitted x))
+  kept-submitted : (rules : Rules C) (h : History C) (q : Queue C) (x : Item) → Ok rules h q (submitted x) → Kept h q → Kept (submitted x ∷ h) (next q (submitted x))
   unfolding finished reclaims next
-  kept-submitted size h q x o k =
+  kept-submitted rules h q x o k =
       let more : these (k .pending) q ++ (x ∷ []) ≡ items (k .pending) ++ (items (q .old ++ q .fresh) ++ (q .waiting ++ (x ∷ []))) = simp append-assoc in
       record {
         back = k .back;
@@ -334,9 +334,9 @@ module _ {C : Type 0} where
           omega (arith, tally-append y (q .out) (x ∷ []), times-cons y (x .id) [])
       new y (no n) = omega (arith, tally-append y (q .out) (x ∷ []), times-cons y (x .id) [], one-other (x .id) y n, k .apart y)
 
-  kept-completed : (size : ℕ) (h : History C) (q : Queue C) (d : Done) → Ok size q (completed d) → Link h q → Kept h q → Kept (completed d ∷ h) (next q (completed d))
+  kept-completed : (rules : Rules C) (h : History C) (q : Queue C) (d : Done) → Ok rules h q (completed d) → Link h q → Kept h q → Kept (completed d ∷ h) (next q (completed d))
   unfolding finished reclaims next
-  kept-completed size h q d o l k =
+  kept-completed rules h q d o l k =
       record {
         back = k .back;
         pending = k .pending ++ ofId (d .id) (q .old ++ q .fresh);
@@ -352,9 +352,9 @@ module _ {C : Type 0} where
         inside = done-all (λ (i : Item). Member i (q .out)) (d .id) (k .pending) (q .old ++ q .fresh) (q .waiting) (k .inside);
       }
 
-  kept-reclaimed : (size : ℕ) (h : History C) (q : Queue C) (d : Done) → Ok size q (reclaimed d) → Kept h q → Kept (reclaimed d ∷ h) (next q (reclaimed d))
+  kept-reclaimed : (rules : Rules C) (h : History C) (q : Queue C) (d : Done) → Ok rules h q (reclaimed d) → Kept h q → Kept (reclaimed d ∷ h) (next q (reclaimed d))
   unfolding finished reclaims next
-  kept-reclaimed size h q d o k =
+  kept-reclaimed rules h q d o k =
       let z = front-of (k .pending) (q .done) (o .0) d (k .pending-ids) (o .1) in
       let eq : k .pending ≡ z .0 ∷ z .1 = z .2 in
       let id-is : z .0 .item .id ≡ d .id = z .3 in
@@ -393,17 +393,17 @@ module _ {C : Type 0} where
       (sym (items-append (q .old ++ butLast (length js) (q .fresh)) (drop (length (q .fresh) - length js) (q .fresh)))
       ∙ ap items (append-assoc (q .old) (butLast (length js) (q .fresh)) (drop (length (q .fresh) - length js) (q .fresh)) ∙ ap (λ (l : List Poll). q .old ++ l) (but-last-rest (length js) (q .fresh)))))
 
-  kept-step : (size : ℕ) (h : History C) (q : Queue C) (e : Event C) → Ok size q e → Link h q → Kept h q → Kept (e ∷ h) (next q e)
+  kept-step : (rules : Rules C) (h : History C) (q : Queue C) (e : Event C) → Ok rules h q e → Link h q → Kept h q → Kept (e ∷ h) (next q e)
   unfolding finished reclaims next
-  kept-step size h q (submitted x) o l k = kept-submitted size h q x o k
-  kept-step size h q (polled x) o l k = kept-same h q (polled x) k refl refl refl refl (these-polled q x (k .pending) (o .0) (o .1))
-  kept-step size h q (completed d) o l k = kept-completed size h q d o l k
-  kept-step size h q (reclaimed d) o l k = kept-reclaimed size h q d o k
-  kept-step size h q (marked c) o l k = kept-same h q (marked c) k refl refl refl refl refl
-  kept-step size h q (rolled c js) o l k = kept-same h q (rolled c js) k refl refl refl refl (these-rolled q c js (k .pending))
-  kept-step size h q (looked z) o l k = kept-same h q (looked z) k refl refl refl refl refl
+  kept-step rules h q (submitted x) o l k = kept-submitted rules h q x o k
+  kept-step rules h q (polled x) o l k = kept-same h q (polled x) k refl refl refl refl (these-polled q x (k .pending) (o .0) (o .1))
+  kept-step rules h q (completed d) o l k = kept-completed rules h q d o l k
+  kept-step rules h q (reclaimed d) o l k = kept-reclaimed rules h q d o k
+  kept-step rules h q (marked c) o l k = kept-same h q (marked c) k refl refl refl refl refl
+  kept-step rules h q (rolled c js) o l k = kept-same h q (rolled c js) k refl refl refl refl (these-rolled q c js (k .pending))
+  kept-step rules h q (unchanged z) o l k = kept-same h q (unchanged z) k refl refl refl refl refl
 
-  pub kept : (size : ℕ) (h : History C) → AllOk size h → Kept h (model h)
+  pub kept : (rules : Rules C) (h : History C) → AllOk rules h → Kept h (model h)
   unfolding finished reclaims model
-  kept size [] o = record { back = []; pending = []; split = refl; back-ids = refl; pending-ids = refl; whole = λ y. refl; apart = λ y. omega arith; inside = tt }
-  kept size (e ∷ h) o = kept-step size h (model h) e (o .1) (link size h (o .0)) (kept size h (o .0))
+  kept rules [] o = record { back = []; pending = []; split = refl; back-ids = refl; pending-ids = refl; whole = λ y. refl; apart = λ y. omega arith; inside = tt }
+  kept rules (e ∷ h) o = kept-step rules h (model h) e (o .1) (link rules h (o .0)) (kept rules h (o .0))

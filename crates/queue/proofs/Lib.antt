@@ -1,7 +1,6 @@
 pub mod Model
 pub mod Listing
 pub mod Trace
-pub mod Machine
 pub mod Line
 pub mod Ahead
 pub mod Returned
@@ -10,4 +9,7 @@ pub mod Undone
 pub mod Reader
 pub mod Literal
 pub mod Handed
+pub mod Machine
+pub mod Promises
+pub mod Says
 pub mod Example

@@ -10,10 +10,10 @@ use mathlib.Core.List.{List, [], _∷_, _++_, append-nil}
 use lib.ListN.{length, take, length-append}
 use lib.Seq.{take-append-le, take-all, length-take-le}
 use lib.Dec.{eqb}
-use Rattle.queue.specs.History.{Item, Call, Event, History, Poll, items, butLast, times, pubs, polls, standing}
-use Rattle.queue.specs.History.{submit, poll, complete, reclaim, rollback, nextId, other, nexted, peeked, quiet, refused, astray, submitted, polled, completed, reclaimed, marked, rolled, looked}
-use Rattle.queue.specs.Promise.{Unlike, Each}
-use Rattle.queue.specs.Sentences.{At, hasb, latest, sources, Stands, LiterallyNo, Literally}
+use Rattle.queue.specs.History.{Item, History, Poll, items, butLast, times, pubs, polls, standing}
+use Rattle.queue.specs.History.{submitted, polled, completed, reclaimed, marked, rolled, unchanged}
+use Rattle.queue.specs.Promise.{Unlike, Rules}
+use Rattle.queue.specs.Sentences.{At, hasb, latest, sources, Stands, Oldest, NoneWaits}
 use Rattle.queue.proofs.Model.{model, Ok, AllOk}
 use Rattle.queue.proofs.Listing.{eqb-yes, eqb-no, length-items, one, one-same, one-other, times-cons, times-append}
 use Rattle.queue.proofs.Trace.{link}
@@ -73,13 +73,13 @@ latest-is (x ∷ xs) y ys u = rw (hasb-yes xs y ys) (ap suc (latest-is xs y ys u
 
 module _ {C : Type 0} where
   -- the chain that waits first is of the publication after those that the standing polls are of
-  module _ (size : ℕ) (h : History C) (ok : AllOk size h) (x : Item) (later : List Item) (first : model h .waiting ≡ x ∷ later) where
+  module _ (rules : Rules C) (h : History C) (ok : AllOk rules h) (x : Item) (later : List Item) (first : model h .waiting ≡ x ∷ later) where
     whole : pubs h ≡ items (standing h) ++ (x ∷ later)
-    whole = link size h ok .published ∙ ap (λ (w : List Item). items (standing h) ++ w) first
+    whole = link rules h ok .published ∙ ap (λ (w : List Item). items (standing h) ++ w) first
 
     alone : Unlike (x .id) later
     alone =
-        let k : Kept h (model h) = kept size h ok in
+        let k : Kept h (model h) = kept rules h ok in
         times-unlike (x .id) later
         (omega (
           arith,
@@ -99,65 +99,43 @@ module _ {C : Type 0} where
     source-at = rw (source-is, ← length-items (standing h), whole) (at-seam (items (standing h)) x later)
 
   -- the standing polls are of the first publications, in order and each once
-  sources-are : (size : ℕ) (h : History C) → AllOk size h → sources h ≡ upTo (length (standing h))
+  sources-are : (rules : Rules C) (h : History C) → AllOk rules h → sources h ≡ upTo (length (standing h))
   unfolding sources standing
-  sources-are size [] o = refl
-  sources-are size (submitted x ∷ h) o = sources-are size h (o .0)
-  sources-are size (polled x ∷ h) o =
+  sources-are rules [] o = refl
+  sources-are rules (submitted x ∷ h) o = sources-are rules h (o .0)
+  sources-are rules (polled x ∷ h) o =
       let p : Poll = record { no = suc (polls h); item = x } in
       let more : suc (length (standing h)) ≡ length (standing h ++ (p ∷ [])) = omega (arith, length-append (standing h) (p ∷ [])) in
-      ap (λ (z : List ℕ). z ++ (latest (x .id) (pubs h) ∷ [])) (sources-are size h (o .0))
-      ∙ ap (λ (k : ℕ). upTo (length (standing h)) ++ (k ∷ [])) (source-is size h (o .0) x (o .1 .0) (o .1 .1)) ∙ ap upTo more
-  sources-are size (completed d ∷ h) o = sources-are size h (o .0)
-  sources-are size (reclaimed d ∷ h) o = sources-are size h (o .0)
-  sources-are size (marked c ∷ h) o = sources-are size h (o .0)
-  sources-are size (rolled c js ∷ h) o =
-      ap (butLast (length js)) (sources-are size h (o .0))
+      ap (λ (z : List ℕ). z ++ (latest (x .id) (pubs h) ∷ [])) (sources-are rules h (o .0))
+      ∙ ap (λ (k : ℕ). upTo (length (standing h)) ++ (k ∷ [])) (source-is rules h (o .0) x (o .1 .0) (o .1 .1)) ∙ ap upTo more
+  sources-are rules (completed d ∷ h) o = sources-are rules h (o .0)
+  sources-are rules (reclaimed d ∷ h) o = sources-are rules h (o .0)
+  sources-are rules (marked c ∷ h) o = sources-are rules h (o .0)
+  sources-are rules (rolled c js ∷ h) o =
+      ap (butLast (length js)) (sources-are rules h (o .0))
       ∙ ap (λ (k : ℕ). take (k - length js) (upTo (length (standing h)))) (length-upTo (length (standing h)))
       ∙ take-upTo (length (standing h)) (length (standing h) - length js) (omega arith)
       ∙ ap upTo (sym (length-take-le (length (standing h) - length js) (standing h) (omega arith)))
-  sources-are size (looked l ∷ h) o = sources-are size h (o .0)
+  sources-are rules (unchanged l ∷ h) o = sources-are rules h (o .0)
 
-  module _ (size : ℕ) (h : History C) (ok : AllOk size h) where
+  module _ (rules : Rules C) (h : History C) (ok : AllOk rules h) where
     stands-low : (i : ℕ) → i < length (standing h) → Stands h i
-    stands-low i l = rw (sources-are size h ok) (upTo-some (length (standing h)) i l)
+    stands-low i l = rw (sources-are rules h ok) (upTo-some (length (standing h)) i l)
 
-    literal-no : (c : Call C) (good : Bool) (n : ℕ) → Ok size (model h) (looked (refused c good n)) → LiterallyNo h c good n
-    literal-no (submit c) good n o = tt
-    literal-no poll true n o =
-        let all : pubs h ≡ items (standing h) = link size h ok .published ∙ ap (λ (w : List Item). items (standing h) ++ w) (o .1) ∙ append-nil (items (standing h)) in
-        (o .0, λ i b. stands-low i (omega (arith, ap length all, length-items (standing h))))
-    literal-no poll false n o = tt
-    literal-no (complete d) good n o = tt
-    literal-no reclaim good n o = tt
-    literal-no (rollback c js) good n o = tt
-    literal-no nextId good n o = tt
-    literal-no other good n o = tt
-
-    literal-at : (e : Event C) → Ok size (model h) e → Literally h e
-    literal-at (submitted x) o = tt
-    literal-at (polled x) o =
-        let at : latest (x .id) (pubs h) ≡ length (standing h) = source-is size h ok x (o .0) (o .1) in (
-          source-at size h ok x (o .0) (o .1),
+    -- "a poll returns the oldest published chain whose polls, if any, were all rolled back, element for element", word for word
+    pub oldest-at : (x : Item) → Ok rules h (model h) (polled x) → Oldest h x (latest (x .id) (pubs h))
+    oldest-at x o =
+        let at : latest (x .id) (pubs h) ≡ length (standing h) = source-is rules h ok x (o .0) (o .1) in (
+          source-at rules h ok x (o .0) (o .1),
           (
             (λ (s : Stands h (latest (x .id) (pubs h))).
                 let none : times (latest (x .id) (pubs h)) (sources h) ≡ 0 =
-                rw (at, sources-are size h ok) (upTo-none (length (standing h)) (length (standing h)) (omega arith)) in
+                rw (at, sources-are rules h ok) (upTo-none (length (standing h)) (length (standing h)) (omega arith)) in
                 omega arith),
             λ i b. stands-low i (omega (arith, at)),
           ),
         )
-    literal-at (completed d) o = tt
-    literal-at (reclaimed d) o = tt
-    literal-at (marked c) o = tt
-    literal-at (rolled c js) o = tt
-    literal-at (looked (nexted i)) o = tt
-    literal-at (looked (peeked b)) o = tt
-    literal-at (looked quiet) o = tt
-    literal-at (looked (refused c good n)) o = literal-no c good n o
-    literal-at (looked (astray n)) o = tt
 
-  -- "A poll returns the oldest published chain whose polls, if any, were all rolled back .. it blocks only when none waits", word for word
-  pub literal : (size : ℕ) (h : History C) → AllOk size h → Each Literally h
-  literal size [] o = tt
-  literal size (e ∷ h) o = (literal size h (o .0), literal-at size h (o .0) e (o .1))
+    -- "and blocks only when none waits"
+    pub none-waits : pubs h ≡ items (standing h) → NoneWaits h
+    none-waits e i b = stands-low i (omega (arith, ap length e, length-items (standing h)))

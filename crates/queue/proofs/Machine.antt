@@ -1,68 +1,142 @@
 -- What a ring owes to the queue, call by call, and what it gets for it: demand 3. A ring is any machine that takes calls.
 -- Assumes nothing.
-use Prim.Native.Nat.{ℕ, zero, suc}
-use mathlib.Core.Path.{_≡_, refl}
-use mathlib.Core.List.{List, [], _∷_}
-use lib.ListN.{drop}
-use Rattle.queue.specs.History.{Event, History}
-use Rattle.queue.specs.History.{submitted, polled, completed, reclaimed, marked, rolled, looked}
-use Rattle.queue.specs.Promise.{Undoes, Asked, Each, Fifo}
-use Rattle.queue.specs.Machine.{Machine, worldOf, historyOf}
-use Rattle.queue.proofs.Model.{Queue, start, next, model, Undo, Ok, AllOk, Grant}
-use Rattle.queue.proofs.Trace.{fifo, undo-of}
+use Prim.Native.Nat.{ℕ}
+use mathlib.Core.Path.{_≡_, sym, ap, subst}
+use mathlib.Core.Logic.{⊎-elim}
+use mathlib.Core.Bool.{Bool, true, false, not}
+use mathlib.Core.List.{List, [], _∷_, _++_}
+use native.Mathlib.Omega.{arith}
+use lib.Dec.{T}
+use Rattle.queue.specs.History.{Kind, Event, History, pubs}
+use Rattle.queue.specs.History.{submit, reclaim, nextId, poll, complete, peek, checkpoint, rollback, other, foreign, refused, unchanged}
+use Rattle.queue.specs.Promise.{Undoes, Rules, forHanded, Each, MayFollow, Refusal, Right}
+use Rattle.queue.specs.Sentences.{latest}
+use Rattle.queue.specs.Machine.{Machine, worldOf, historyOf, FairCalls, numberOf, OfKind}
+use Rattle.queue.specs.Demand.{Premise, Demand3}
+use Rattle.queue.proofs.Model.{Queue, start, next, model, Ok, AllOk}
+use Rattle.queue.proofs.Trace.{rightly, all-ok-before, undoes-of}
+use Rattle.queue.proofs.Ahead.{ahead}
+use Rattle.queue.proofs.Returned.{returned}
+use Rattle.queue.proofs.Literal.{oldest-at, none-waits}
+use Rattle.queue.proofs.Reader.{own-completion, own-before, once-each}
+use Rattle.queue.proofs.Undone.{undone, undone-held, wait-again}
 
--- what is assumed of an accepted rollback, by the history and by the queue
-pub record Terms (C : Type 0) : Type 1 where
-  pub Premise : History C → C → List ℕ → Type 0
-  pub Granted : Queue C → C → List ℕ → Type 0
-  pub grants : (size : ℕ) (h : History C) → AllOk size h → (c : C) (js : List ℕ) → Premise h c js → Granted (model h) c js
+-- not both
+pub never-both : (b : Bool) → T b → T (not b) → ⊥
+never-both true t f = f
+never-both false t f = t
 
 module _ {C : Type 0} where
-  -- "each rollback using a checkpoint that its end took and undoing every poll since, with no completion between"
-  abbrev pub honest : Terms C
-  honest = record { Premise = Undoes; Granted = Undo; grants = undo-of }
+  -- what is said of each event is said of this one, and of each before it
+  pub each-before : (P : History C → Event C → Type 0) (later before : History C) → Each P (later ++ before) → Each P before
+  each-before P [] before a = a
+  each-before P (e ∷ later) before a = each-before P later before (a .0)
 
-  -- what is asked of an event by the history is granted by the queue
-  pub grant : (terms : Terms C) (size : ℕ) (h : History C) → AllOk size h → (e : Event C) → Asked (terms .Premise) h e → Grant (terms .Granted) (model h) e
-  grant terms size h o (submitted x) a = tt
-  grant terms size h o (polled x) a = tt
-  grant terms size h o (completed d) a = tt
-  grant terms size h o (reclaimed d) a = tt
-  grant terms size h o (marked c) a = tt
-  grant terms size h o (rolled c js) a = terms .grants size h o c js a
-  grant terms size h o (looked l) a = a
+  pub each-at : (P : History C → Event C → Type 0) (h later before : History C) (e : Event C) → h ≡ later ++ (e ∷ before) → Each P h → P before e
+  each-at P h later before e s a = each-before P later (e ∷ before) (subst (Each P) s a) .1
 
-  pub each-drop : (P : History C → Event C → Type 0) (n : ℕ) (h : History C) → Each P h → Each P (drop n h)
-  each-drop P zero h a = a
-  each-drop P (suc n) [] a = tt
-  each-drop P (suc n) (e ∷ h) a = each-drop P n h (a .0)
+  -- a valid call that is refused for what the ring holds is not refused for what it was handed
+  held-not-handed : (rules : Rules C) (h : History C) (k : Kind C) (n : ℕ) → Refusal rules h k n → T (forHanded n) → ⊥
+  held-not-handed rules h (submit c) n r t =
+      ⊎-elim (λ z. subst (λ (m : ℕ). T (forHanded m)) (z .0) t) (λ z. subst (λ (m : ℕ). T (forHanded m)) (z .0) t) r
+  held-not-handed rules h reclaim n r t = subst (λ (m : ℕ). T (forHanded m)) (r .0) t
+  held-not-handed rules h nextId n r t = subst (λ (m : ℕ). T (forHanded m)) (r .0) t
+  held-not-handed rules h poll n r t = subst (λ (m : ℕ). T (forHanded m)) (r .0) t
+  held-not-handed rules h (complete d) n r t = subst (λ (m : ℕ). T (forHanded m)) (r .0) t
+  held-not-handed rules h peek n r t = r
+  held-not-handed rules h checkpoint n r t = r
+  held-not-handed rules h (rollback c js) n r t = subst (λ (m : ℕ). T (forHanded m)) r t
+  held-not-handed rules h other n r t = r
+  held-not-handed rules h foreign n r t = r
 
-  module _ (M : Machine C) (w : M .World) where
-    -- the first calls, without the last n, said the first of what was said
-    pub history-drop : (n : ℕ) (cs : List (M .Call)) → historyOf M w (drop n cs) ≡ drop n (historyOf M w cs)
-    unfolding historyOf
-    history-drop zero cs = refl
-    history-drop (suc n) [] = refl
-    history-drop (suc n) (c ∷ cs) = history-drop n cs
+module _ {C : Type 0} (M : Machine C) (rules : Rules C) (w : M .World) where
+  -- the premise of a run is that of each shorter one
+  pub premise-before : (later before : List (M .Call)) → Premise M rules w (later ++ before) → Premise M rules w before
+  unfolding historyOf
+  premise-before [] before p = p
+  premise-before (c ∷ later) before p = premise-before later before (record { fair = p .fair .0; rollbacks = p .rollbacks .0 })
 
-    -- what a ring owes: a likeness to the queue that every call keeps, and an answer that the queue allows
-    pub record Matches (size : ℕ) (terms : Terms C) : Type 1 where
-      pub Like : M .World → Queue C → Type 0
-      pub first : Like w start
-      pub step : (v : M .World) (q : Queue C) (c : M .Call) → Like v q → Grant (terms .Granted) q (M .say v c)
-          → Ok size q (M .say v c) × Like (M .go v c) (next q (M .say v c))
+  -- what a ring owes: a likeness to the queue that every fair call keeps, and an answer that the queue allows, of the call's kind; and a call that is
+  -- refused for what it was handed leaves all that it was lent
+  pub record Matches : Type 1 where
+    pub Like : M .World → Queue C → Type 0
+    pub first : Like w start
+    pub step : (h : History C) → AllOk rules h → (v : M .World) (c : M .Call) → Like v (model h) → M .Fair v c → MayFollow rules h (M .say v c)
+        → Ok rules h (model h) (M .say v c) × Like (M .go v c) (next (model h) (M .say v c))
+    pub kind : (v : M .World) (q : Queue C) (c : M .Call) → Like v q → M .Fair v c → OfKind (M .request c) (M .say v c)
+    pub keeps : (v : M .World) (c : M .Call) → M .Fair v c → T (forHanded (numberOf (M .say v c))) → M .exit v c ≡ M .entry v c
 
-    module _ (size : ℕ) (terms : Terms C) (m : Matches size terms) where
-      pub matched : (cs : List (M .Call)) → Each (Asked (terms .Premise)) (historyOf M w cs)
-          → AllOk size (historyOf M w cs) × m .Like (worldOf M w cs) (model (historyOf M w cs))
-      unfolding worldOf historyOf model
-      matched [] a = (tt, m .first)
-      matched (c ∷ cs) a =
-          let h : History C = historyOf M w cs in
-          let ih : AllOk size (historyOf M w cs) × m .Like (worldOf M w cs) (model (historyOf M w cs)) = matched cs (a .0) in
-          let s = m .step (worldOf M w cs) (model (historyOf M w cs)) c (ih .1) (grant terms size h (ih .0) (M .say (worldOf M w cs) c) (a .1)) in
-          ((ih .0, s .0), s .1)
+  module _ (m : Matches) where
+    pub matched : (cs : List (M .Call)) → Premise M rules w cs → AllOk rules (historyOf M w cs) × m .Like (worldOf M w cs) (model (historyOf M w cs))
+    unfolding worldOf historyOf model
+    matched [] p = (tt, m .first)
+    matched (c ∷ cs) p =
+        let ih : AllOk rules (historyOf M w cs) × m .Like (worldOf M w cs) (model (historyOf M w cs)) =
+        matched cs (record { fair = p .fair .0; rollbacks = p .rollbacks .0 }) in
+        let s = m .step (historyOf M w cs) (ih .0) (worldOf M w cs) c (ih .1) (p .fair .1) (p .rollbacks .1) in
+        ((ih .0, s .0), s .1)
 
-      -- DEMAND 3 of this machine: "completions meet their own submissions", whatever calls it is given, if what is asked of them holds
-      pub machine-fifo : (cs : List (M .Call)) → Each (Asked (terms .Premise)) (historyOf M w cs) → Fifo size (historyOf M w cs)
-      machine-fifo cs a = fifo size (historyOf M w cs) (matched cs a .0)
+    module _ (cs : List (M .Call)) (p : Premise M rules w cs) where
+      abbrev h : History C
+      h = historyOf M w cs
+
+      ok : AllOk rules h
+      ok = matched cs p .0
+
+      right : Each (Right rules) h
+      right = rightly rules h ok
+
+      -- up to an event of the history, and at it
+      ok-to : (later before : History C) (e : Event C) → h ≡ later ++ (e ∷ before) → AllOk rules (e ∷ before)
+      ok-to later before e s = all-ok-before rules later (e ∷ before) (subst (AllOk rules) s ok)
+
+      right-at : (later before : History C) (e : Event C) → h ≡ later ++ (e ∷ before) → Right rules before e
+      right-at later before e s = each-at (Right rules) h later before e s right
+
+      right-to : (later before : History C) → h ≡ later ++ before → Each (Right rules) before
+      right-to later before s = each-before (Right rules) later before (subst (Each (Right rules)) s right)
+
+      -- up to a call
+      premise-to : (later before : List (M .Call)) (c : M .Call) → cs ≡ later ++ (c ∷ before) → Premise M rules w (c ∷ before)
+      premise-to later before c s = premise-before later (c ∷ before) (subst (Premise M rules w) s p)
+
+      like-at : (later before : List (M .Call)) (c : M .Call) → cs ≡ later ++ (c ∷ before) → m .Like (worldOf M w before) (model (historyOf M w before))
+      like-at later before c s = matched before (premise-before (c ∷ []) before (premise-to later before c s)) .1
+
+      -- DEMAND 3 of this machine, whatever calls it is given, if what is asked of them holds
+      pub demanded : Demand3 M rules w cs
+      demanded =
+          record {
+            oldest = λ x later before s.
+                let o = ok-to later before _ s in
+                (latest (x .id) (pubs before), oldest-at rules before (o .0) x (o .1));
+            blocks = λ v n later before s t.
+                ⊎-elim (λ z. absurd (never-both (forHanded n) (z .0) t))
+                (λ z. (z .1 .0, none-waits rules before (ok-to later before _ s .0) (z .1 .1))) (right-at later before _ s .1);
+            arrives = λ front rest x later between before e s a u n t.
+                ahead rules before front rest x a between e (right-to later (e ∷ (between ++ before)) s) u n t;
+            in-order = λ d later before s. right-at later before _ s;
+            returns-block = λ v n later before s t.
+                ⊎-elim (λ z. absurd (never-both (forHanded n) (z .0) t)) (λ z. z .1) (right-at later before _ s .1);
+            comes-back = λ front rest d later between before e s a n t.
+                returned rules before front rest d a between e (right-to later (e ∷ (between ++ before)) s) n t;
+            own-before = λ d later before s. own-before rules before d (ok-to later before _ s);
+            own = own-completion rules h ok;
+            once = once-each rules h ok;
+            refusals = λ k v n later before s t.
+                ⊎-elim (λ z. z .1) (λ z. absurd (held-not-handed rules before k n (z .1) t)) (right-at later before _ s .1);
+            left-alone = λ later before c s t. m .keeps (worldOf M w before) c (premise-to later before c s .fair .1) t;
+            kinds = λ later before c s.
+                m .kind (worldOf M w before) (model (historyOf M w before)) c (like-at later before c s) (premise-to later before c s .fair .1);
+            rollbacks = λ c js later before s.
+                let o = ok-to later before _ s in
+                let u : Undoes before c js = undoes-of rules before (o .0) c js (o .1) in (
+                  u,
+                  record {
+                    stand = undone before c js u;
+                    still-held = undone-held before c js u rules (o .0);
+                    wait-again = wait-again before c js u rules (o .0);
+                  },
+                );
+            answers = right;
+          }

@@ -6,9 +6,11 @@ use mathlib.Core.Logic.{_⊎_}
 use mathlib.Core.List.{List, [], _∷_, _++_}
 use mathlib.Core.Bool.{true, false}
 use lib.ListN.{length, drop}
-use Rattle.queue.specs.History.{Item, Done, Call, Look, Event, History, Poll, slotsOf, slotsIn, items, ids, upto, after, butLast, without, withoutItem, times}
-use Rattle.queue.specs.History.{submit, poll, complete, reclaim, rollback, nextId, other, nexted, peeked, quiet, refused, astray, submitted, polled, completed, reclaimed, marked, rolled, looked}
-use Rattle.queue.specs.Promise.{Has, Unlike, Fine, AskedLook}
+use Rattle.queue.specs.History.{Item, Done, Kind, Unchanged, Event, History, Poll, slotsOf, slotsIn, items, ids, upto, after, butLast, without, withoutItem, times}
+use Rattle.queue.specs.History.{submit, reclaim, nextId, poll, complete, peek, checkpoint, rollback, other, foreign}
+use Rattle.queue.specs.History.{nexted, peeked, quiet, refused, foreignAnswered, submitted, polled, completed, reclaimed, marked, rolled, unchanged}
+use lib.Dec.{T}
+use Rattle.queue.specs.Promise.{Has, Unlike, Fine, forHanded, Rules, Due}
 
 -- a checkpoint that was taken: its value, how many polls and completions came before it, and the polls that a rollback could have undone
 pub record Mark (C : Type 0) : Type 0 where
@@ -51,12 +53,12 @@ module _ {C : Type 0} where
   abbrev pub markOf : Queue C → C → Mark C
   markOf q c = record { value = c; polls = q .polls; comps = q .comps; stood = q .fresh }
 
-  abbrev pub looking : Queue C → Look C → List ℕ
+  abbrev pub looking : Queue C → Unchanged C → List ℕ
   looking q (nexted i) = i ∷ []
   looking q (peeked b) = q .promised
   looking q quiet = q .promised
-  looking q (refused c g n) = q .promised
-  looking q (astray n) = q .promised
+  looking q (refused k v n) = q .promised
+  looking q (foreignAnswered n) = q .promised
 
   unfoldable pub next : Queue C → Event C → Queue C
   next q (submitted x) =
@@ -71,7 +73,7 @@ module _ {C : Type 0} where
       record { waiting = q .waiting; old = q .old; fresh = q .fresh; done = q .done; out = q .out; promised = q .promised; polls = q .polls; comps = q .comps; since = q .since; marks = q .marks ++ (markOf q c ∷ []) }
   next q (rolled c js) =
       record { waiting = items (drop (length (q .fresh) - length js) (q .fresh)) ++ q .waiting; old = q .old; fresh = butLast (length js) (q .fresh); done = q .done; out = q .out; promised = q .promised; polls = q .polls; comps = q .comps; since = q .since; marks = q .marks }
-  next q (looked l) =
+  next q (unchanged l) =
       record { waiting = q .waiting; old = q .old; fresh = q .fresh; done = q .done; out = q .out; promised = looking q l; polls = q .polls; comps = q .comps; since = q .since; marks = q .marks }
 
   unfoldable pub model : History C → Queue C
@@ -86,63 +88,51 @@ module _ {C : Type 0} where
     pub same-comps : mark .comps ≡ q .comps
     pub names : (y : ℕ) → times y js ≡ times y (ids (after (mark .polls) (q .fresh)))
 
-  pub record UndoAll (q : Queue C) (c : C) (js : List ℕ) : Type 0 where
+  pub record UndoIntact (q : Queue C) (c : C) (js : List ℕ) : Type 0 where
     pub undo : Undo q c js
     pub stand : upto (undo .mark .polls) (q .fresh) ≡ undo .mark .stood
 
-  -- which answers the queue allows
-  abbrev pub OkBadNo : Queue C → Call C → ℕ → Type 0
-  OkBadNo q (submit c) n = n ≡ 8
-  OkBadNo q poll n = n ≡ 8
-  OkBadNo q (complete d) n = ⊥
-  OkBadNo q reclaim n = ⊥
-  OkBadNo q (rollback c js) n = (n ≡ 7) × (UndoAll q c js → ⊥)
-  OkBadNo q nextId n = ⊥
-  OkBadNo q other n = n ≡ 7
+  -- which answers the queue allows, after the history h that led to it. What differs from ring to ring is said over the history
+  module _ (rules : Rules C) where
+    abbrev size : ℕ
+    size = rules .size
 
-  module _ (size : ℕ) where
-    abbrev pub OkNo : Queue C → Call C → ℕ → Type 0
-    OkNo q (submit c) n =
+    abbrev pub OkRefusal : Queue C → Kind C → ℕ → Type 0
+    OkRefusal q (submit c) n =
         ((n ≡ 1) × (slotsOf c ≡ 0)) ⊎ ((n ≡ 3) × ((0 < slotsOf c) × (size < slotsIn (q .out) + slotsOf c)))
-    OkNo q poll n = (n ≡ 3) × (q .waiting ≡ [])
-    OkNo q (complete d) n = (n ≡ 5) × (Has (d .id) (q .old ++ q .fresh) → ⊥)
-    OkNo q reclaim n = (n ≡ 3) × (q .done ≡ [])
-    OkNo q (rollback c js) n = (n ≡ 9) × (UndoAll q c js → ⊥)
-    OkNo q nextId n = (n ≡ 4) × (length (q .out) ≡ size)
-    OkNo q other n = ⊥
+    OkRefusal q reclaim n = (n ≡ 3) × (q .done ≡ [])
+    OkRefusal q nextId n = (n ≡ 4) × (rules .idsTaken (q .out) ≡ size)
+    OkRefusal q poll n = (n ≡ 3) × (q .waiting ≡ [])
+    OkRefusal q (complete d) n = (n ≡ 5) × (Has (d .id) (q .old ++ q .fresh) → ⊥)
+    OkRefusal q peek n = ⊥
+    OkRefusal q checkpoint n = ⊥
+    OkRefusal q (rollback c js) n = n ≡ 9
+    OkRefusal q other n = ⊥
+    OkRefusal q foreign n = ⊥
 
-    abbrev pub OkLook : Queue C → Look C → Type 0
-    OkLook q (nexted i) = (i < size) × (Unlike i (q .out) × ((length (q .out) < size) × ((j : ℕ) → q .promised ≡ j ∷ [] → i ≡ j)))
-    OkLook q (peeked b) = ((b ≡ true) × (0 < length (q .waiting))) ⊎ ((b ≡ false) × (q .waiting ≡ []))
-    OkLook q quiet = Unit
-    OkLook q (refused c true n) = OkNo q c n
-    OkLook q (refused c false n) = OkBadNo q c n
-    OkLook q (astray n) = Unit
+    abbrev pub OkUnchanged : History C → Queue C → Unchanged C → Type 0
+    OkUnchanged h q (nexted i) =
+        (i < size) × (Unlike i (q .out) × ((rules .idsTaken (q .out) < size) × ((j : ℕ) → q .promised ≡ j ∷ [] → i ≡ j)))
+    OkUnchanged h q (peeked b) = ((b ≡ true) × (0 < length (q .waiting))) ⊎ ((b ≡ false) × (q .waiting ≡ []))
+    OkUnchanged h q quiet = Unit
+    OkUnchanged h q (refused k v n) =
+        (Due rules h k → ⊥) × ((T (forHanded n) × rules .MayRefuse h k v n) ⊎ ((v ≡ true) × OkRefusal q k n))
+    OkUnchanged h q (foreignAnswered n) = Unit
 
-    abbrev pub Ok : Queue C → Event C → Type 0
-    Ok q (submitted x) =
+    abbrev pub Ok : History C → Queue C → Event C → Type 0
+    Ok h q (submitted x) =
         (x .id < size)
         × (Unlike (x .id) (q .out)
         × (Fine (x .chain)
         × ((slotsIn (q .out) + slotsOf (x .chain) ≤ size)
         × ((i : ℕ) → q .promised ≡ i ∷ [] → x .id ≡ i))))
-    Ok q (polled x) = (later : List Item) × (q .waiting ≡ x ∷ later)
-    Ok q (completed d) = Has (d .id) (q .old ++ q .fresh)
-    Ok q (reclaimed d) = (later : List Done) × (q .done ≡ d ∷ later)
-    Ok q (marked c) = Unit
-    Ok q (rolled c js) = Undo q c js
-    Ok q (looked l) = OkLook q l
+    Ok h q (polled x) = (later : List Item) × (q .waiting ≡ x ∷ later)
+    Ok h q (completed d) = Has (d .id) (q .old ++ q .fresh)
+    Ok h q (reclaimed d) = (later : List Done) × (q .done ≡ d ∷ later)
+    Ok h q (marked c) = Unit
+    Ok h q (rolled c js) = Undo q c js
+    Ok h q (unchanged u) = OkUnchanged h q u
 
     abbrev pub AllOk : History C → Type 0
     AllOk [] = Unit
-    AllOk (e ∷ h) = AllOk h × Ok (model h) e
-
-  -- what a ring may count on of an event, by the queue: the same of an accepted rollback, and of a call that went astray
-  abbrev pub Grant : (Queue C → C → List ℕ → Type 0) → Queue C → Event C → Type 0
-  Grant R q (submitted x) = Unit
-  Grant R q (polled x) = Unit
-  Grant R q (completed d) = Unit
-  Grant R q (reclaimed d) = Unit
-  Grant R q (marked c) = Unit
-  Grant R q (rolled c js) = R q c js
-  Grant R q (looked l) = AskedLook l
+    AllOk (e ∷ h) = AllOk h × Ok h (model h) e

@@ -12,8 +12,8 @@ use mathlib.Core.List.{List, [], _∷_, _++_}
 use lib.ListN.{length, drop, length-append}
 use lib.Seq.{drop-at}
 use Rattle.queue.specs.History.{Item, Done, History, Poll, slotsOf, slotsIn, items, ids, withoutItem, times, pubs, comps, reclaims, standing, held, out, finished, waiting}
-use Rattle.queue.specs.History.{submitted, polled, completed, reclaimed, marked, rolled, looked}
-use Rattle.queue.specs.Promise.{Unlike}
+use Rattle.queue.specs.History.{submitted, polled, completed, reclaimed, marked, rolled, unchanged}
+use Rattle.queue.specs.Promise.{Unlike, Rules}
 use Rattle.queue.specs.Sentences.{All, At, ItsOwn, ItsOwnBefore}
 use Rattle.queue.proofs.Model.{Member, model, AllOk}
 use Rattle.queue.proofs.Listing.{all-append, Over, Rising, ids-append, length-ids, one, one-same, one-other, one-low, times-cons, member-left}
@@ -141,15 +141,15 @@ module _ {C : Type 0} where
   abbrev pub outs : History C → List Item
   outs h = items (drop (length (reclaims h)) (finished h)) ++ (items (held h) ++ waiting h)
 
-  module _ (size : ℕ) (h : History C) (ok : AllOk size h) where
+  module _ (rules : Rules C) (h : History C) (ok : AllOk rules h) where
     l : Link h (model h)
-    l = link size h ok
+    l = link rules h ok
 
     k : Kept h (model h)
-    k = kept size h ok
+    k = kept rules h ok
 
     s : Served h (model h)
-    s = served size h ok
+    s = served rules h ok
 
     finished-ids : ids (finished h) ≡ dids (comps h)
     finished-ids =
@@ -220,7 +220,7 @@ module _ {C : Type 0} where
         ∙ drop-at (k .back) (k .pending) (length (reclaims h)) (sym (length-ids (k .back)) ∙ ap length (k .back-ids) ∙ length-dids (reclaims h))
 
     outs-are : outs h ≡ these (k .pending) (model h)
-    outs-are = rw (pending-is, l .held-is, waiting-is size h ok)
+    outs-are = rw (pending-is, l .held-is, waiting-is rules h ok)
 
     -- each of them is out, and each ID at most once
     pub outs-in : All (λ (i : Item). Member i (out h)) (outs h)
@@ -230,10 +230,10 @@ module _ {C : Type 0} where
     outs-once y = rw (l .out-is) (k .apart y)
 
   -- each return is of a submission that was published, polled and completed before
-  pub own-before : (size : ℕ) (h : History C) (d : Done) → AllOk size (reclaimed d ∷ h) → (p : ℕ) × ItsOwnBefore h d p
+  pub own-before : (rules : Rules C) (h : History C) (d : Done) → AllOk rules (reclaimed d ∷ h) → (p : ℕ) × ItsOwnBefore h d p
   unfolding comps reclaims finished standing pubs
-  own-before size h d o =
-      let r = own-completion size (reclaimed d ∷ h) o (length (reclaims h)) (omega (arith, length-append (reclaims h) (d ∷ []))) in
+  own-before rules h d o =
+      let r = own-completion rules (reclaimed d ∷ h) o (length (reclaims h)) (omega (arith, length-append (reclaims h) (d ∷ []))) in
       let w : ItsOwn (reclaimed d ∷ h) (length (reclaims h)) (r .0) = r .2 in
       let e : w .done ≡ d = at-same (reclaims h ++ (d ∷ [])) (length (reclaims h)) (w .done) d (w .came-back) (at-seam (reclaims h) d []) in (
         r .0,
@@ -249,11 +249,11 @@ module _ {C : Type 0} where
 
   -- an ID given is the ID of no chain whose completion poll_used has not yet returned: of none that is completed and not returned,
   -- of none that is held, and of none that waits
-  pub fresh-id : (size : ℕ) (h : History C) (x : Item) → AllOk size (submitted x ∷ h)
+  pub fresh-id : (rules : Rules C) (h : History C) (x : Item) → AllOk rules (submitted x ∷ h)
       → Unlike (x .id) (items (drop (length (reclaims h)) (finished h))) × Unlike (x .id) (items (held h)) × Unlike (x .id) (waiting h)
-  fresh-id size h x o =
-      let u : Unlike (x .id) (out h) = rw (link size h (o .0) .out-is) (o .1 .1 .0) in
-      let v : Unlike (x .id) (outs h) = unlike-of (x .id) (outs h) (out h) (outs-in size h (o .0)) u in
+  fresh-id rules h x o =
+      let u : Unlike (x .id) (out h) = rw (link rules h (o .0) .out-is) (o .1 .1 .0) in
+      let v : Unlike (x .id) (outs h) = unlike-of (x .id) (outs h) (out h) (outs-in rules h (o .0)) u in
       let w : Unlike (x .id) (items (held h) ++ waiting h) = unlike-right (x .id) (items (drop (length (reclaims h)) (finished h))) (items (held h) ++ waiting h) v in (
         unlike-left (x .id) (items (drop (length (reclaims h)) (finished h))) (items (held h) ++ waiting h) v,
         unlike-left (x .id) (items (held h)) (waiting h) w,
@@ -271,39 +271,39 @@ module _ {C : Type 0} where
 
   -- "it frees exactly its chain's slots": when poll_used returns a completion, the slots that are out are fewer by those of the chain
   -- that its submission published
-  pub frees : (size : ℕ) (h : History C) (d : Done) → AllOk size (reclaimed d ∷ h) → (p : ℕ) → ItsOwn (reclaimed d ∷ h) (length (reclaims h)) p
+  pub frees : (rules : Rules C) (h : History C) (d : Done) → AllOk rules (reclaimed d ∷ h) → (p : ℕ) → ItsOwn (reclaimed d ∷ h) (length (reclaims h)) p
       → (x : Item) → At (pubs h) p x → slotsIn (out h) ≡ slotsIn (out (reclaimed d ∷ h)) + slotsOf (x .chain)
   unfolding out
-  frees size h d o p w x a =
-      let k : Kept h (model h) = kept size h (o .0) in
+  frees rules h d o p w x a =
+      let k : Kept h (model h) = kept rules h (o .0) in
       let z = front-of (k .pending) (model h .done) (o .1 .0) d (k .pending-ids) (o .1 .1) in
       let is : z .0 .item ≡ x = own-item h d k p (z .0) (z .1) x (z .2) w a in
-      let e : out h ≡ model h .out = link size h (o .0) .out-is in
+      let e : out h ≡ model h .out = link rules h (o .0) .out-is in
       let m : Member (z .0 .item) (model h .out) = subst (λ (ps : List Poll). All (λ (i : Item). Member i (model h .out)) (these ps (model h))) (z .2) (k .inside) .0 in
-      slots-less (d .id) x (out h) (ap (λ (i : Item). i .id) (sym is) ∙ z .3) (rw e (subst (λ (i : Item). Member i (model h .out)) is m)) (outs-once size h (o .0) (d .id))
+      slots-less (d .id) x (out h) (ap (λ (i : Item). i .id) (sym is) ∙ z .3) (rw e (subst (λ (i : Item). Member i (model h .out)) is m)) (outs-once rules h (o .0) (d .id))
 
-  fit : (size : ℕ) (h : History C) → AllOk size h → Slotted (out h) × (slotsIn (out h) ≤ size)
+  fit : (rules : Rules C) (h : History C) → AllOk rules h → Slotted (out h) × (slotsIn (out h) ≤ rules .size)
   unfolding out
-  fit size [] o = (tt, omega arith)
-  fit size (submitted x ∷ h) o =
-      let ih : Slotted (out h) × (slotsIn (out h) ≤ size) = fit size h (o .0) in
-      let e : out h ≡ model h .out = link size h (o .0) .out-is in (
+  fit rules [] o = (tt, omega arith)
+  fit rules (submitted x ∷ h) o =
+      let ih : Slotted (out h) × (slotsIn (out h) ≤ rules .size) = fit rules h (o .0) in
+      let e : out h ≡ model h .out = link rules h (o .0) .out-is in (
         all-append (λ (i : Item). 0 < slotsOf (i .chain)) (out h) (x ∷ []) (ih .0) (o .1 .1 .1 .0 .0, tt),
         omega (arith, slots-append (out h) (x ∷ []), ap slotsIn e, o .1 .1 .1 .1 .0),
       )
-  fit size (polled x ∷ h) o = fit size h (o .0)
-  fit size (completed d ∷ h) o = fit size h (o .0)
-  fit size (reclaimed d ∷ h) o =
-      let ih : Slotted (out h) × (slotsIn (out h) ≤ size) = fit size h (o .0) in
+  fit rules (polled x ∷ h) o = fit rules h (o .0)
+  fit rules (completed d ∷ h) o = fit rules h (o .0)
+  fit rules (reclaimed d ∷ h) o =
+      let ih : Slotted (out h) × (slotsIn (out h) ≤ rules .size) = fit rules h (o .0) in
       let r : Slotted (withoutItem (d .id) (out h)) × (slotsIn (withoutItem (d .id) (out h)) ≤ slotsIn (out h)) = slotted-less (d .id) (out h) (ih .0) in
       (r .0, omega (arith, r .1, ih .1))
-  fit size (marked c ∷ h) o = fit size h (o .0)
-  fit size (rolled c js ∷ h) o = fit size h (o .0)
-  fit size (looked l ∷ h) o = fit size h (o .0)
+  fit rules (marked c ∷ h) o = fit rules h (o .0)
+  fit rules (rolled c js ∷ h) o = fit rules h (o .0)
+  fit rules (unchanged l ∷ h) o = fit rules h (o .0)
 
   -- never more slots are out than the ring has, nor more chains than slots: a submission that finds slots finds an ID ("never 4 or 5")
-  pub slots-fit : (size : ℕ) (h : History C) → AllOk size h → slotsIn (out h) ≤ size
-  slots-fit size h o = fit size h o .1
+  pub slots-fit : (rules : Rules C) (h : History C) → AllOk rules h → slotsIn (out h) ≤ rules .size
+  slots-fit rules h o = fit rules h o .1
 
-  pub chains-fit : (size : ℕ) (h : History C) → AllOk size h → length (out h) ≤ slotsIn (out h)
-  chains-fit size h o = slotted-length (out h) (fit size h o .0)
+  pub chains-fit : (rules : Rules C) (h : History C) → AllOk rules h → length (out h) ≤ slotsIn (out h)
+  chains-fit rules h o = slotted-length (out h) (fit rules h o .0)

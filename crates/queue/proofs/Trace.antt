@@ -1,7 +1,7 @@
 -- A history that the queue allows is first in, first out; and a rollback is honest by the history exactly if it is by the queue.
 -- Assumes nothing.
 use mathlib.Core.Path.{_≡_, refl, sym, ap, _∙_, subst}
-use mathlib.Core.Logic.{_⊎_, inl, inr}
+use mathlib.Core.Logic.{_⊎_, inl, inr, ⊎-elim}
 use mathlib.Core.Bool.{true, false}
 use Prim.Native.Nat.{ℕ, suc, _-_, _≤_}
 use native.Mathlib.Nat.{le-refl}
@@ -9,11 +9,12 @@ use native.Mathlib.Omega.{arith}
 use mathlib.Core.List.{List, [], _∷_, _++_, append-assoc, append-nil, append-cancel-left}
 use lib.ListN.{length, drop, length-append}
 use lib.Seq.{drop-at}
-use Rattle.queue.specs.History.{Item, Done, Call, Look, Event, History, Poll, items, ids, upto, after, butLast, without, times, pubs, polls, comps, reclaims, standing, held, out, promised, waiting}
-use Rattle.queue.specs.History.{submit, poll, complete, reclaim, rollback, nextId, other, nexted, peeked, quiet, refused, astray, submitted, polled, completed, reclaimed, marked, rolled, looked}
-use Rattle.queue.specs.Promise.{Undoes, UndoesAll, RightBadNo, RightNo, RightLook, Right, Fifo}
+use Rattle.queue.specs.History.{Item, Done, Kind, Unchanged, Event, History, Poll, items, ids, upto, after, butLast, without, times, pubs, polls, comps, reclaims, standing, held, out, promised, waiting}
+use Rattle.queue.specs.History.{submit, reclaim, nextId, poll, complete, peek, checkpoint, rollback, other, foreign}
+use Rattle.queue.specs.History.{nexted, peeked, quiet, refused, foreignAnswered, submitted, polled, completed, reclaimed, marked, rolled, unchanged}
+use Rattle.queue.specs.Promise.{Undoes, UndoesIntact, Rules, Each, Refusal, RightUnchanged, Right}
 use Rattle.queue.specs.Sentences.{All}
-use Rattle.queue.proofs.Model.{Mark, Queue, start, tail, Member, markOf, looking, next, model, Undo, UndoAll, OkBadNo, OkNo, OkLook, Ok, AllOk}
+use Rattle.queue.proofs.Model.{Mark, Queue, start, tail, Member, markOf, looking, next, model, Undo, UndoIntact, OkRefusal, OkUnchanged, Ok, AllOk}
 use Rattle.queue.proofs.Listing.{all-append, all-map, all-of, Under, Rising, under-mono, rising-snoc, rising-take, items-append, length-items, upto-under, after-under, but-last-rest, but-last-append, all-but-last, named-fit, member-left, member-last, member-snoc, nil-of}
 
 -- of a mark with as many completions as now, no poll before the last completion came after it
@@ -30,7 +31,7 @@ module _ {C : Type 0} where
   settled (reclaimed d ∷ h) = settled h
   settled (marked c ∷ h) = settled h
   settled (rolled c js ∷ h) = settled h
-  settled (looked l ∷ h) = settled h
+  settled (unchanged l ∷ h) = settled h
 
   -- the queue's state is what the history says
   pub record Link (h : History C) (q : Queue C) : Type 0 where
@@ -86,17 +87,17 @@ snoc-is : (L s f : List Poll) (n m : ℕ) (x : Item) → n ≡ m → L ≡ s ++ 
 snoc-is L s f n m x e o = rw (o, e, append-assoc)
 
 module _ {C : Type 0} where
-  promised-look : (h : History C) (q : Queue C) (l : Look C) → promised h ≡ q .promised → promised (looked l ∷ h) ≡ looking q l
+  promised-look : (h : History C) (q : Queue C) (l : Unchanged C) → promised h ≡ q .promised → promised (unchanged l ∷ h) ≡ looking q l
   unfolding promised
   promised-look h q (nexted i) e = refl
   promised-look h q (peeked b) e = e
   promised-look h q quiet e = e
-  promised-look h q (refused c g n) e = e
-  promised-look h q (astray n) e = e
+  promised-look h q (refused k v n) e = e
+  promised-look h q (foreignAnswered n) e = e
 
-  link-step : (size : ℕ) (h : History C) (q : Queue C) (e : Event C) → Link h q → Ok size q e → Link (e ∷ h) (next q e)
+  link-step : (rules : Rules C) (h : History C) (q : Queue C) (e : Event C) → Link h q → Ok rules h q e → Link (e ∷ h) (next q e)
   unfolding pubs polls comps reclaims standing held out promised settled next
-  link-step size h q (submitted x) l o =
+  link-step rules h q (submitted x) l o =
       record {
         published = ap (λ (s : List Item). s ++ (x ∷ [])) (l .published) ∙ append-assoc (items (standing h)) (q .waiting) (x ∷ []);
         given = l .given;
@@ -112,7 +113,7 @@ module _ {C : Type 0} where
         since-le = l .since-le;
         marks-ok = l .marks-ok;
       }
-  link-step size h q (polled x) l o =
+  link-step rules h q (polled x) l o =
       let p : Poll = record { no = suc (polls h); item = x } in
       record {
         published = pub-poll (pubs h) (standing h) (q .waiting) (o .0) p (l .published) (o .1);
@@ -130,7 +131,7 @@ module _ {C : Type 0} where
         since-le = omega (arith, l .since-le);
         marks-ok = l .marks-ok;
       }
-  link-step size h q (completed d) l o =
+  link-step rules h q (completed d) l o =
       record {
         published = l .published;
         given = ap (λ (s : List Done). s ++ (d ∷ [])) (l .given) ∙ append-assoc (reclaims h) (q .done) (d ∷ []);
@@ -148,7 +149,7 @@ module _ {C : Type 0} where
             all-map (MarkOk (q .comps) (q .since)) (MarkOk (suc (q .comps)) (q .polls))
             (λ m z. (omega (arith, z .0), λ (e : m .comps ≡ suc (q .comps)). omega (arith, z .0))) (q .marks) (l .marks-ok);
       }
-  link-step size h q (reclaimed d) l o =
+  link-step rules h q (reclaimed d) l o =
       record {
         published = l .published;
         given = give (comps h) (reclaims h) (q .done) (o .0) d (l .given) (o .1);
@@ -164,7 +165,7 @@ module _ {C : Type 0} where
         since-le = l .since-le;
         marks-ok = l .marks-ok;
       }
-  link-step size h q (marked c) l o =
+  link-step rules h q (marked c) l o =
       record {
         published = l .published;
         given = l .given;
@@ -181,7 +182,7 @@ module _ {C : Type 0} where
         marks-ok =
             all-append (MarkOk (q .comps) (q .since)) (q .marks) (markOf q c ∷ []) (l .marks-ok) ((le-refl (q .comps), λ e. l .since-le), tt);
       }
-  link-step size h q (rolled c js) l o =
+  link-step rules h q (rolled c js) l o =
       let fit : length js ≤ length (q .fresh) = named-fit (o .mark .polls) (q .fresh) js (o .names) in
       let cut : butLast (length js) (standing h) ≡ settled h ++ butLast (length js) (q .fresh) =
       ap (butLast (length js)) (l .stand) ∙ but-last-append (length js) (settled h) (q .fresh) fit in
@@ -200,7 +201,7 @@ module _ {C : Type 0} where
         since-le = l .since-le;
         marks-ok = l .marks-ok;
       }
-  link-step size h q (looked k) l o =
+  link-step rules h q (unchanged k) l o =
       record {
         published = l .published;
         given = l .given;
@@ -217,16 +218,16 @@ module _ {C : Type 0} where
         marks-ok = l .marks-ok;
       }
 
-  pub link : (size : ℕ) (h : History C) → AllOk size h → Link h (model h)
+  pub link : (rules : Rules C) (h : History C) → AllOk rules h → Link h (model h)
   unfolding model
-  link size [] o = link-start
-  link size (e ∷ h) o = link-step size h (model h) e (link size h (o .0)) (o .1)
+  link rules [] o = link-start
+  link rules (e ∷ h) o = link-step rules h (model h) e (link rules h (o .0)) (o .1)
 
   -- ---- the checkpoints of the queue are those that the history took
 
-  pub all-ok-before : (size : ℕ) (g h : History C) → AllOk size (g ++ h) → AllOk size h
-  all-ok-before size [] h o = o
-  all-ok-before size (e ∷ g) h o = all-ok-before size g h (o .0)
+  pub all-ok-before : (rules : Rules C) (g h : History C) → AllOk rules (g ++ h) → AllOk rules h
+  all-ok-before rules [] h o = o
+  all-ok-before rules (e ∷ g) h o = all-ok-before rules g h (o .0)
 
   marks-grow : (q : Queue C) (e : Event C) (m : Mark C) → Member m (q .marks) → Member m (next q e .marks)
   unfolding next
@@ -236,7 +237,7 @@ module _ {C : Type 0} where
   marks-grow q (reclaimed d) m k = k
   marks-grow q (marked c) m k = member-left m (q .marks) (markOf q c ∷ []) k
   marks-grow q (rolled c js) m k = k
-  marks-grow q (looked l) m k = k
+  marks-grow q (unchanged l) m k = k
 
   mark-since : (since before : History C) (c : C) → Member (markOf (model before) c) (model (since ++ (marked c ∷ before)) .marks)
   unfolding model next
@@ -271,7 +272,7 @@ module _ {C : Type 0} where
   came (reclaimed d ∷ h) m k = came-on h (reclaimed d) m (came h m k)
   came (marked c ∷ h) m k = came-marked h c m (λ z. came h m z) (member-snoc m (model h .marks) (markOf (model h) c) k)
   came (rolled c js ∷ h) m k = came-on h (rolled c js) m (came h m k)
-  came (looked l ∷ h) m k = came-on h (looked l) m (came h m k)
+  came (unchanged l ∷ h) m k = came-on h (unchanged l) m (came h m k)
 
   -- ---- no completion between
 
@@ -284,7 +285,7 @@ module _ {C : Type 0} where
   comps-append (reclaimed d ∷ g) h = comps-append g h
   comps-append (marked c ∷ g) h = comps-append g h
   comps-append (rolled c js ∷ g) h = comps-append g h
-  comps-append (looked l ∷ g) h = comps-append g h
+  comps-append (unchanged l ∷ g) h = comps-append g h
 
   none-between : (g h : History C) → length (comps (g ++ h)) ≡ length (comps h) → length (comps g) ≡ 0
   none-between g h e = omega (arith, ap length (comps-append g h), length-append (comps h) (comps g))
@@ -302,7 +303,7 @@ module _ {C : Type 0} where
   same-settled (reclaimed d ∷ g) h e = same-settled g h e
   same-settled (marked c ∷ g) h e = same-settled g h e
   same-settled (rolled c js ∷ g) h e = same-settled g h e
-  same-settled (looked l ∷ g) h e = same-settled g h e
+  same-settled (unchanged l ∷ g) h e = same-settled g h e
 
   comps-marked : (c : C) (h : History C) → comps (marked c ∷ h) ≡ comps h
   unfolding comps
@@ -315,21 +316,21 @@ module _ {C : Type 0} where
   -- ---- a rollback that is honest by the history is so by the queue, and the other way round
 
   -- what a checkpoint of the history is in the queue
-  module _ (size : ℕ) (h : History C) (ok : AllOk size h) (c : C) (since before : History C) (took : h ≡ since ++ (marked c ∷ before)) where
-    ok-before : AllOk size before
-    ok-before = all-ok-before size since (marked c ∷ before) (rw took at ok) .0
+  module _ (rules : Rules C) (h : History C) (ok : AllOk rules h) (c : C) (since before : History C) (took : h ≡ since ++ (marked c ∷ before)) where
+    ok-before : AllOk rules before
+    ok-before = all-ok-before rules since (marked c ∷ before) (rw took at ok) .0
 
     at-polls : polls before ≡ model before .polls
-    at-polls = link size before ok-before .polls-is
+    at-polls = link rules before ok-before .polls-is
 
     pub comps-now : comps h ≡ comps before → model before .comps ≡ model h .comps
-    comps-now e = sym (link size before ok-before .comps-is) ∙ ap length (sym e) ∙ link size h ok .comps-is
+    comps-now e = sym (link rules before ok-before .comps-is) ∙ ap length (sym e) ∙ link rules h ok .comps-is
 
     module _ (same : model before .comps ≡ model h .comps) where
       between : length (comps since) ≡ 0
       between =
           none-between since (marked c ∷ before)
-          (ap (λ (g : History C). length (comps g)) (sym took) ∙ link size h ok .comps-is ∙ sym same ∙ sym (link size before ok-before .comps-is)
+          (ap (λ (g : History C). length (comps g)) (sym took) ∙ link rules h ok .comps-is ∙ sym same ∙ sym (link rules before ok-before .comps-is)
           ∙ ap length (sym (comps-marked c before)))
 
       comps-then : comps h ≡ comps before
@@ -341,44 +342,44 @@ module _ {C : Type 0} where
       pub settled-under : Under (polls before) (settled h)
       settled-under =
           let low : model h .since ≤ model before .polls =
-          all-of (MarkOk (model h .comps) (model h .since)) (markOf (model before) c) (model h .marks) (mark-in h since before c took) (link size h ok .marks-ok) .1 same in
-          under-mono (rw at-polls low) (settled h) (link size h ok .under)
+          all-of (MarkOk (model h .comps) (model h .since)) (markOf (model before) c) (model h .marks) (mark-in h since before c took) (link rules h ok .marks-ok) .1 same in
+          under-mono (rw at-polls low) (settled h) (link rules h ok .under)
 
       pub same-after : after (polls before) (standing h) ≡ after (model before .polls) (model h .fresh)
       same-after =
-          ap (after (polls before)) (link size h ok .stand) ∙ after-under (polls before) (settled h) (model h .fresh) settled-under
+          ap (after (polls before)) (link rules h ok .stand) ∙ after-under (polls before) (settled h) (model h .fresh) settled-under
           ∙ ap (λ (k : ℕ). after k (model h .fresh)) at-polls
 
       same-upto : upto (polls before) (standing h) ≡ settled h ++ upto (model before .polls) (model h .fresh)
       same-upto =
-          ap (upto (polls before)) (link size h ok .stand) ∙ upto-under (polls before) (settled h) (model h .fresh) settled-under
+          ap (upto (polls before)) (link rules h ok .stand) ∙ upto-under (polls before) (settled h) (model h .fresh) settled-under
           ∙ ap (λ (k : ℕ). settled h ++ upto k (model h .fresh)) at-polls
 
       standing-before : standing before ≡ settled h ++ model before .fresh
-      standing-before = link size before ok-before .stand ∙ ap (λ (l : List Poll). l ++ model before .fresh) (sym settled-then)
+      standing-before = link rules before ok-before .stand ∙ ap (λ (l : List Poll). l ++ model before .fresh) (sym settled-then)
 
-  module _ (size : ℕ) (h : History C) (ok : AllOk size h) (c : C) (js : List ℕ) where
+  module _ (rules : Rules C) (h : History C) (ok : AllOk rules h) (c : C) (js : List ℕ) where
     pub undo-of : Undoes h c js → Undo (model h) c js
     undo-of u =
-        let same : model (u .before) .comps ≡ model h .comps = comps-now size h ok c (u .since) (u .before) (u .took) (u .none-completed) in
+        let same : model (u .before) .comps ≡ model h .comps = comps-now rules h ok c (u .since) (u .before) (u .took) (u .none-completed) in
         record {
           mark = markOf (model (u .before)) c;
           taken = mark-in h (u .since) (u .before) c (u .took);
           value = refl;
           same-comps = same;
-          names = λ y. u .names y ∙ ap (λ (l : List Poll). times y (ids l)) (same-after size h ok c (u .since) (u .before) (u .took) same);
+          names = λ y. u .names y ∙ ap (λ (l : List Poll). times y (ids l)) (same-after rules h ok c (u .since) (u .before) (u .took) same);
         }
 
-    pub undo-all-of : UndoesAll h c js → UndoAll (model h) c js
+    pub undo-all-of : UndoesIntact h c js → UndoIntact (model h) c js
     unfolding undo-of
     undo-all-of a =
         let u : Undoes h c js = a .undoes in
-        let same : model (u .before) .comps ≡ model h .comps = comps-now size h ok c (u .since) (u .before) (u .took) (u .none-completed) in
+        let same : model (u .before) .comps ≡ model h .comps = comps-now rules h ok c (u .since) (u .before) (u .took) (u .none-completed) in
         record {
           undo = undo-of u;
           stand =
               append-cancel-left (settled h) (upto (model (u .before) .polls) (model h .fresh)) (model (u .before) .fresh)
-              (sym (same-upto size h ok c (u .since) (u .before) (u .took) same) ∙ a .stand ∙ standing-before size h ok c (u .since) (u .before) (u .took) same);
+              (sym (same-upto rules h ok c (u .since) (u .before) (u .took) same) ∙ a .stand ∙ standing-before rules h ok c (u .since) (u .before) (u .took) same);
         }
 
     -- the mark of an `Undo`, as the history has it
@@ -408,13 +409,13 @@ module _ {C : Type 0} where
           since = b .since;
           before = b .before;
           took = b .took;
-          none-completed = comps-then size h ok c (b .since) (b .before) (b .took) (back-same u);
+          none-completed = comps-then rules h ok c (b .since) (b .before) (b .took) (back-same u);
           names = λ y.
               u .names y ∙ ap (λ (m : Mark C). times y (ids (after (m .polls) (model h .fresh)))) (b .is)
-              ∙ ap (λ (l : List Poll). times y (ids l)) (sym (same-after size h ok c (b .since) (b .before) (b .took) (back-same u)));
+              ∙ ap (λ (l : List Poll). times y (ids l)) (sym (same-after rules h ok c (b .since) (b .before) (b .took) (back-same u)));
         }
 
-    pub undoes-all-of : UndoAll (model h) c js → UndoesAll h c js
+    pub undoes-all-of : UndoIntact (model h) c js → UndoesIntact h c js
     unfolding undoes-of
     undoes-all-of a =
         let u : Undo (model h) c js = a .undo in
@@ -422,16 +423,16 @@ module _ {C : Type 0} where
         record {
           undoes = undoes-of u;
           stand =
-              same-upto size h ok c (b .since) (b .before) (b .took) (back-same u)
+              same-upto rules h ok c (b .since) (b .before) (b .took) (back-same u)
               ∙ ap (λ (m : Mark C). settled h ++ upto (m .polls) (model h .fresh)) (sym (b .is)) ∙ ap (λ (l : List Poll). settled h ++ l) (a .stand)
-              ∙ ap (λ (m : Mark C). settled h ++ m .stood) (b .is) ∙ sym (standing-before size h ok c (b .since) (b .before) (b .took) (back-same u));
+              ∙ ap (λ (m : Mark C). settled h ++ m .stood) (b .is) ∙ sym (standing-before rules h ok c (b .since) (b .before) (b .took) (back-same u));
         }
 
   -- ---- the promise
 
-  module _ (size : ℕ) (h : History C) (ok : AllOk size h) where
+  module _ (rules : Rules C) (h : History C) (ok : AllOk rules h) where
     l : Link h (model h)
-    l = link size h ok
+    l = link rules h ok
 
     pub waiting-is : waiting h ≡ model h .waiting
     waiting-is = ap (λ (x : List Item). drop (length (standing h)) x) (l .published) ∙ drop-at (items (standing h)) (model h .waiting) (length (standing h)) (length-items (standing h))
@@ -439,51 +440,44 @@ module _ {C : Type 0} where
     none-waits : model h .waiting ≡ [] → pubs h ≡ items (standing h)
     none-waits e = l .published ∙ ap (λ (w : List Item). items (standing h) ++ w) e ∙ append-nil (items (standing h))
 
-    right-no : (c : Call C) (n : ℕ) → OkNo size (model h) c n → RightNo size h c n
-    right-no (submit c) n o = rw (l .out-is) o
-    right-no poll n o = (o .0, none-waits (o .1))
-    right-no (complete d) n o = (o .0, rw (l .held-is) (o .1))
-    right-no reclaim n o = (o .0, l .given ∙ ap (λ (w : List Done). reclaims h ++ w) (o .1) ∙ append-nil (reclaims h))
-    right-no (rollback c js) n o = (o .0, λ a. o .1 (undo-all-of size h ok c js a))
-    right-no nextId n o = rw (l .out-is) o
-    right-no other n o = o
+    right-refusal : (c : Kind C) (n : ℕ) → OkRefusal rules (model h) c n → Refusal rules h c n
+    right-refusal (submit c) n o = rw (l .out-is) o
+    right-refusal reclaim n o = (o .0, l .given ∙ ap (λ (w : List Done). reclaims h ++ w) (o .1) ∙ append-nil (reclaims h))
+    right-refusal nextId n o = rw (l .out-is) o
+    right-refusal poll n o = (o .0, none-waits (o .1))
+    right-refusal (complete d) n o = (o .0, rw (l .held-is) (o .1))
+    right-refusal peek n o = o
+    right-refusal checkpoint n o = o
+    right-refusal (rollback c js) n o = o
+    right-refusal other n o = o
+    right-refusal foreign n o = o
 
-    right-bad-no : (c : Call C) (n : ℕ) → OkBadNo (model h) c n → RightBadNo h c n
-    right-bad-no (submit c) n o = o
-    right-bad-no poll n o = o
-    right-bad-no (complete d) n o = o
-    right-bad-no reclaim n o = o
-    right-bad-no (rollback c js) n o = (o .0, λ a. o .1 (undo-all-of size h ok c js a))
-    right-bad-no nextId n o = o
-    right-bad-no other n o = o
+    right-unchanged : (u : Unchanged C) → OkUnchanged rules h (model h) u → RightUnchanged rules h u
+    right-unchanged (nexted i) o = rw (l .out-is, l .promised-is) o
+    right-unchanged (peeked b) o = rw waiting-is o
+    right-unchanged quiet o = tt
+    right-unchanged (refused k v n) o = (o .0, ⊎-elim inl (λ z. inr (z .0, right-refusal k n (z .1))) (o .1))
+    right-unchanged (foreignAnswered n) o = tt
 
-    right-look : (k : Look C) → OkLook size (model h) k → RightLook size h k
-    right-look (nexted i) o = rw (l .out-is, l .promised-is) o
-    right-look (peeked b) o = rw waiting-is o
-    right-look quiet o = tt
-    right-look (refused c true n) o = right-no c n o
-    right-look (refused c false n) o = right-bad-no c n o
-    right-look (astray n) o = tt
-
-    right : (e : Event C) → Ok size (model h) e → Right size h e
+    right : (e : Event C) → Ok rules h (model h) e → Right rules h e
     right (submitted x) o = rw (l .out-is, l .promised-is) o
     right (polled x) o = (o .0, l .published ∙ ap (λ (w : List Item). items (standing h) ++ w) (o .1))
     right (completed d) o = rw (l .held-is) o
     right (reclaimed d) o = (o .0, l .given ∙ ap (λ (w : List Done). reclaims h ++ w) (o .1))
     right (marked c) o = tt
-    right (rolled c js) o = undoes-of size h ok c js o
-    right (looked k) o = right-look k o
+    right (rolled c js) o = undoes-of rules h ok c js o
+    right (unchanged u) o = right-unchanged u o
 
-  -- DEMAND 3, of every history that the queue allows
-  pub fifo : (size : ℕ) (h : History C) → AllOk size h → Fifo size h
-  fifo size [] o = tt
-  fifo size (e ∷ h) o = (fifo size h (o .0), right size h (o .0) e (o .1))
+  -- every history that the queue allows is answered rightly
+  pub rightly : (rules : Rules C) (h : History C) → AllOk rules h → Each (Right rules) h
+  rightly rules [] o = tt
+  rightly rules (e ∷ h) o = (rightly rules h (o .0), right rules h (o .0) e (o .1))
 
   -- ---- and back: what the promise allows, the queue allows; so whatever follows from the queue follows from the promise alone
 
-  module _ (size : ℕ) (h : History C) (ok : AllOk size h) where
+  module _ (rules : Rules C) (h : History C) (ok : AllOk rules h) where
     k : Link h (model h)
-    k = link size h ok
+    k = link rules h ok
 
     -- what waits, and what is done, by what comes after those polled and those returned
     waits : (w : List Item) → pubs h ≡ items (standing h) ++ w → model h .waiting ≡ w
@@ -492,41 +486,34 @@ module _ {C : Type 0} where
     dones : (w : List Done) → comps h ≡ reclaims h ++ w → model h .done ≡ w
     dones w e = append-cancel-left (reclaims h) (model h .done) w (sym (k .given) ∙ e)
 
-    ok-no : (c : Call C) (n : ℕ) → RightNo size h c n → OkNo size (model h) c n
-    ok-no (submit c) n r = rw (← k .out-is) r
-    ok-no poll n r = (r .0, waits [] (r .1 ∙ sym (append-nil (items (standing h)))))
-    ok-no (complete d) n r = (r .0, rw (← k .held-is) (r .1))
-    ok-no reclaim n r = (r .0, dones [] (r .1 ∙ sym (append-nil (reclaims h))))
-    ok-no (rollback c js) n r = (r .0, λ a. r .1 (undoes-all-of size h ok c js a))
-    ok-no nextId n r = rw (← k .out-is) r
-    ok-no other n r = r
+    ok-refusal : (c : Kind C) (n : ℕ) → Refusal rules h c n → OkRefusal rules (model h) c n
+    ok-refusal (submit c) n r = rw (← k .out-is) r
+    ok-refusal reclaim n r = (r .0, dones [] (r .1 ∙ sym (append-nil (reclaims h))))
+    ok-refusal nextId n r = rw (← k .out-is) r
+    ok-refusal poll n r = (r .0, waits [] (r .1 ∙ sym (append-nil (items (standing h)))))
+    ok-refusal (complete d) n r = (r .0, rw (← k .held-is) (r .1))
+    ok-refusal peek n r = r
+    ok-refusal checkpoint n r = r
+    ok-refusal (rollback c js) n r = r
+    ok-refusal other n r = r
+    ok-refusal foreign n r = r
 
-    ok-bad-no : (c : Call C) (n : ℕ) → RightBadNo h c n → OkBadNo (model h) c n
-    ok-bad-no (submit c) n r = r
-    ok-bad-no poll n r = r
-    ok-bad-no (complete d) n r = r
-    ok-bad-no reclaim n r = r
-    ok-bad-no (rollback c js) n r = (r .0, λ a. r .1 (undoes-all-of size h ok c js a))
-    ok-bad-no nextId n r = r
-    ok-bad-no other n r = r
+    ok-unchanged : (u : Unchanged C) → RightUnchanged rules h u → OkUnchanged rules h (model h) u
+    ok-unchanged (nexted i) r = rw (← k .out-is, ← k .promised-is) r
+    ok-unchanged (peeked b) r = rw (← waiting-is rules h ok) r
+    ok-unchanged quiet r = tt
+    ok-unchanged (refused c v n) r = (r .0, ⊎-elim inl (λ z. inr (z .0, ok-refusal c n (z .1))) (r .1))
+    ok-unchanged (foreignAnswered n) r = tt
 
-    ok-look : (z : Look C) → RightLook size h z → OkLook size (model h) z
-    ok-look (nexted i) r = rw (← k .out-is, ← k .promised-is) r
-    ok-look (peeked b) r = rw (← waiting-is size h ok) r
-    ok-look quiet r = tt
-    ok-look (refused c true n) r = ok-no c n r
-    ok-look (refused c false n) r = ok-bad-no c n r
-    ok-look (astray n) r = tt
-
-    ok-of : (e : Event C) → Right size h e → Ok size (model h) e
+    ok-of : (e : Event C) → Right rules h e → Ok rules h (model h) e
     ok-of (submitted x) r = rw (← k .out-is, ← k .promised-is) r
     ok-of (polled x) r = (r .0, waits (x ∷ r .0) (r .1))
     ok-of (completed d) r = rw (← k .held-is) r
     ok-of (reclaimed d) r = (r .0, dones (d ∷ r .0) (r .1))
     ok-of (marked c) r = tt
-    ok-of (rolled c js) r = undo-of size h ok c js r
-    ok-of (looked z) r = ok-look z r
+    ok-of (rolled c js) r = undo-of rules h ok c js r
+    ok-of (unchanged u) r = ok-unchanged u r
 
-  pub allowed : (size : ℕ) (h : History C) → Fifo size h → AllOk size h
-  allowed size [] f = tt
-  allowed size (e ∷ h) f = let ok : AllOk size h = allowed size h (f .0) in (ok, ok-of size h ok e (f .1))
+  pub allowed : (rules : Rules C) (h : History C) → Each (Right rules) h → AllOk rules h
+  allowed rules [] f = tt
+  allowed rules (e ∷ h) f = let ok : AllOk rules h = allowed rules h (f .0) in (ok, ok-of rules h ok e (f .1))

@@ -27,31 +27,40 @@ pub record Done : Type 0 where
 
 -- ---- calls with their answers
 
--- what was asked in a call that was refused
-pub data Call (C : Type 0) : Type 0 where
+-- what a call asks for
+pub data Kind (C : Type 0) : Type 0 where
   -- of the producer: a submission, poll_used, next_id
-  submit : Chain → Call C
-  reclaim : Call C
-  nextId : Call C
-  -- of the consumer: poll_available, submit_used, rollback_polls
-  poll : Call C
-  complete : Done → Call C
-  rollback : C → List ℕ → Call C
-  -- every other call of either
-  other : Call C
+  submit : Chain → Kind C
+  reclaim : Kind C
+  nextId : Kind C
+  -- of the consumer: poll_available, submit_used, peek_available, poll_checkpoint, rollback_polls
+  poll : Kind C
+  complete : Done → Kind C
+  peek : Kind C
+  checkpoint : Kind C
+  rollback : C → List ℕ → Kind C
+  -- every other call of either end that is given its own last record, tables and bytes
+  other : Kind C
+  -- any call that is given something else than the end's own, and an opening
+  foreign : Kind C
+
+-- a call as its caller sees it: what it asks for, and whether all that it hands in besides the end's own is valid (slices of equal length, outputs
+-- long enough, a cursor or checkpoint on the ring). It is judged by the call and the size that was opened, never by what the ring says.
+pub record Request (C : Type 0) : Type 0 where
+  pub kind : Kind C
+  pub valid : Bool
 
 -- an answer that changes nothing of what a history speaks of
-pub data Look (C : Type 0) : Type 0 where
+pub data Unchanged (C : Type 0) : Type 0 where
   -- next_id answered this ID, peek_available this
-  nexted : ℕ → Look C
-  peeked : Bool → Look C
+  nexted : ℕ → Unchanged C
+  peeked : Bool → Unchanged C
   -- any other question, and a notification turned or armed
-  quiet : Look C
-  -- a call by an end given its own last record, tables and bytes, refused with this number; whether all else that was handed in with the
-  -- call was good (a ring says what that is: slices of equal length, outputs long enough, a checkpoint that can be one)
-  refused : Call C → Bool → ℕ → Look C
-  -- a call given what is not the end's own, answered with this number (0 is success)
-  astray : ℕ → Look C
+  quiet : Unchanged C
+  -- a call of this kind, by an end given its own last record, tables and bytes, refused with this number; whether it was valid
+  refused : Kind C → Bool → ℕ → Unchanged C
+  -- a call that is given something else than the end's own, and an opening, answered with this number (0 is success)
+  foreignAnswered : ℕ → Unchanged C
 
 -- one call with its answer
 pub data Event (C : Type 0) : Type 0 where
@@ -68,7 +77,7 @@ pub data Event (C : Type 0) : Type 0 where
   -- a rollback to this checkpoint, with this list, was accepted
   rolled : C → List ℕ → Event C
   -- every other answer
-  looked : Look C → Event C
+  unchanged : Unchanged C → Event C
 
 -- THE LATEST EVENT FIRST: `e ∷ h` is h and then e
 abbrev pub History : Type 0 → Type 0
@@ -142,7 +151,7 @@ module _ {C : Type 0} where
   pubs (reclaimed d ∷ h) = pubs h
   pubs (marked c ∷ h) = pubs h
   pubs (rolled c js ∷ h) = pubs h
-  pubs (looked l ∷ h) = pubs h
+  pubs (unchanged u ∷ h) = pubs h
 
   -- how many polls gave a chain
   unfoldable pub polls : History C → ℕ
@@ -153,7 +162,7 @@ module _ {C : Type 0} where
   polls (reclaimed d ∷ h) = polls h
   polls (marked c ∷ h) = polls h
   polls (rolled c js ∷ h) = polls h
-  polls (looked l ∷ h) = polls h
+  polls (unchanged u ∷ h) = polls h
 
   -- the completions, the oldest first
   unfoldable pub comps : History C → List Done
@@ -164,7 +173,7 @@ module _ {C : Type 0} where
   comps (reclaimed d ∷ h) = comps h
   comps (marked c ∷ h) = comps h
   comps (rolled c js ∷ h) = comps h
-  comps (looked l ∷ h) = comps h
+  comps (unchanged u ∷ h) = comps h
 
   -- the completions that poll_used returned, in that order
   unfoldable pub reclaims : History C → List Done
@@ -175,10 +184,10 @@ module _ {C : Type 0} where
   reclaims (reclaimed d ∷ h) = reclaims h ++ (d ∷ [])
   reclaims (marked c ∷ h) = reclaims h
   reclaims (rolled c js ∷ h) = reclaims h
-  reclaims (looked l ∷ h) = reclaims h
+  reclaims (unchanged u ∷ h) = reclaims h
 
-  -- the polls that stand: those that gave a chain and were not rolled back. A rollback undoes as many as its list names, the latest: where it
-  -- meets the premise these are the polls since its checkpoint (queue/proofs/Undone.antt).
+  -- the polls that stand: those that gave a chain and were not rolled back. A rollback undoes as many as its list names, the latest. That these are
+  -- exactly the polls since its checkpoint is part of the promise: `RolledBack` (Sentences.antt), field `rollbacks` of `Demand3`.
   unfoldable pub standing : History C → List Poll
   standing [] = []
   standing (submitted x ∷ h) = standing h
@@ -187,7 +196,7 @@ module _ {C : Type 0} where
   standing (reclaimed d ∷ h) = standing h
   standing (marked c ∷ h) = standing h
   standing (rolled c js ∷ h) = butLast (length js) (standing h)
-  standing (looked l ∷ h) = standing h
+  standing (unchanged u ∷ h) = standing h
 
   -- the polls that stand and are not completed: what the consumer holds
   unfoldable pub held : History C → List Poll
@@ -198,7 +207,7 @@ module _ {C : Type 0} where
   held (reclaimed d ∷ h) = held h
   held (marked c ∷ h) = held h
   held (rolled c js ∷ h) = butLast (length js) (held h)
-  held (looked l ∷ h) = held h
+  held (unchanged u ∷ h) = held h
 
   -- the polls that were completed, in the order of their completions: a completion is of the held poll of its ID
   unfoldable pub finished : History C → List Poll
@@ -209,7 +218,7 @@ module _ {C : Type 0} where
   finished (reclaimed d ∷ h) = finished h
   finished (marked c ∷ h) = finished h
   finished (rolled c js ∷ h) = finished h
-  finished (looked l ∷ h) = finished h
+  finished (unchanged u ∷ h) = finished h
 
   -- the chains that are out: published, and their completion not yet returned by poll_used
   unfoldable pub out : History C → List Item
@@ -220,7 +229,7 @@ module _ {C : Type 0} where
   out (reclaimed d ∷ h) = withoutItem (d .id) (out h)
   out (marked c ∷ h) = out h
   out (rolled c js ∷ h) = out h
-  out (looked l ∷ h) = out h
+  out (unchanged u ∷ h) = out h
 
   -- the ID that next_id answered, if nothing was submitted or returned since
   unfoldable pub promised : History C → List ℕ
@@ -231,11 +240,11 @@ module _ {C : Type 0} where
   promised (reclaimed d ∷ h) = []
   promised (marked c ∷ h) = promised h
   promised (rolled c js ∷ h) = promised h
-  promised (looked (nexted i) ∷ h) = i ∷ []
-  promised (looked (peeked b) ∷ h) = promised h
-  promised (looked quiet ∷ h) = promised h
-  promised (looked (refused c g n) ∷ h) = promised h
-  promised (looked (astray n) ∷ h) = promised h
+  promised (unchanged (nexted i) ∷ h) = i ∷ []
+  promised (unchanged (peeked b) ∷ h) = promised h
+  promised (unchanged quiet ∷ h) = promised h
+  promised (unchanged (refused k v n) ∷ h) = promised h
+  promised (unchanged (foreignAnswered n) ∷ h) = promised h
 
   -- the chains that wait: published, and with no poll that stands
   abbrev pub waiting : History C → List Item
