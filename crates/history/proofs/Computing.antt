@@ -28,7 +28,7 @@ use Rattle.consumer.specs.Rollback.{handedRefusal, staleOf, rollbackRefusal, ba
 use Rattle.consumer.specs.Notices as availNotices
 use Rattle.consumer.specs.Fresh as takenFresh
 use Rattle.queue.specs.Machine.{worldOf, historyOf}
-use Rattle.packed.specs.Machine.{ownSays, ownLeaves, says, leaves}
+use Rattle.packed.specs.Machine.{producerDoes, consumerDoes, leaves, callSays}
 
 -- bytes, cursors, descriptors, event areas and geometry
 unfoldable pub the-leaves : Unit {0}
@@ -49,5 +49,5 @@ unfolding takenRecord.badRecord takenRecord.badLent takenRecord.bytesRefusal tak
 the-consumer = tt
 
 unfoldable pub computing : Unit {0}
-unfolding historyOf worldOf says leaves ownSays ownLeaves the-leaves the-ring the-producer the-consumer
+unfolding historyOf worldOf leaves callSays producerDoes consumerDoes the-leaves the-ring the-producer the-consumer
 computing = tt

@@ -10,17 +10,18 @@ use lib.Dec.{T, ltb}
 use lib.ListN.{getD, replicate, getD-replicate}
 use borrow.Author.Tests.{ltb-true}
 use Rattle.cursor.specs.declared.RingCursor.{RingCursor}
-use Rattle.layout.specs.Layout.{apart, badLayout, outside}
+use Rattle.layout.specs.declared.Layout.{Layout}
+use Rattle.layout.specs.Layout.{layout, apart, badLayout, outside}
 use Rattle.producer.specs.Fresh as made
 use Rattle.consumer.specs.declared.Checkpoint.{Checkpoint}
 use Rattle.consumer.specs.Fresh as taken
 use Rattle.ring.specs.Tables.{upFrom}
 use Rattle.queue.specs.History.{Chain, Item, Done, History}
-use Rattle.queue.specs.History.{nexted, peeked, quiet, refused, astray, submitted, polled, completed, reclaimed, marked, rolled, looked}
-use Rattle.queue.specs.Promise.{Undoes, Asked, Each}
-use Rattle.packed.specs.Calls.{Own, Foreign, Typed, TypedChain, oneOf}
-use Rattle.packed.specs.Calls.{submitAvailable, submitOne, pollAvailable, submitUsed, own, foreign}
-use Rattle.packed.specs.Machine.{World, Given}
+use Rattle.queue.specs.History.{submitted, polled, completed, reclaimed, marked, rolled, unchanged}
+use Rattle.queue.specs.Promise.{Rules, Each, MayFollow}
+use Rattle.packed.specs.Calls.{ProducerCall, ConsumerCall, Foreign, Given, TypedProducer, TypedConsumer, TypedChain, oneOf}
+use Rattle.packed.specs.Calls.{submitAvailable, submitOne, pollAvailable, submitUsed, byProducer, byConsumer, own, foreign}
+use Rattle.packed.specs.Machine.{World, Ring, packed}
 use Rattle.packed.specs.Opening.{Opening, openedWorld}
 
 -- ---- the openings
@@ -28,47 +29,46 @@ use Rattle.packed.specs.Opening.{Opening, openedWorld}
 abbrev pub zeros : ℕ → List ℕ
 zeros n = replicate n 0
 
--- n slots over zero bytes: the table, then the driver's event area and the device's; and that both openings are accepted
-abbrev pub Accepted : ℕ → Type 0
-Accepted n =
-    (made.openOf n 0 (n * 16) (n * 16 + 4) (zeros (n * 16 + 8)) (zeros n) (zeros n) .answer .number ≡ 0)
-    × (taken.openOf n 0 (n * 16) (n * 16 + 4) (zeros (n * 16 + 8)) (zeros n) .answer .number ≡ 0)
+-- n slots over zero bytes: the table, then the driver's event area and the device's
+abbrev pub geometryOf : ℕ → Layout
+geometryOf n = layout n 0 (n * 16) (n * 16 + 4)
 
-abbrev pub over-zeros : (n : ℕ) → Accepted n → Opening
-over-zeros n a =
+-- both openings of this ring are accepted so
+abbrev pub Accepted : Ring → ℕ → Type 0
+Accepted R n =
+    (R .producerNew (geometryOf n) (zeros (n * 16 + 8)) (zeros n) (zeros n) .number ≡ 0)
+    × (R .consumerNew (geometryOf n) (zeros (n * 16 + 8)) (zeros n) .number ≡ 0)
+
+abbrev pub over-zeros : (R : Ring) (n : ℕ) → Accepted R n → Opening R
+over-zeros R n a =
     record {
-      size = n;
-      table = 0;
-      driver = n * 16;
-      device = n * 16 + 4;
+      geometry = geometryOf n;
       ring = zeros (n * 16 + 8);
+      zeroed = λ k h. getD-replicate (n * 16 + 8) (0 + k) 0 0 (omega (arith, h));
       ids = zeros n;
       counts = zeros n;
       heldCounts = zeros n;
+      producerFinds = zeros (n * 16 + 8);
+      consumerFinds = zeros (n * 16 + 8);
+      producer-length = refl;
+      consumer-length = refl;
       producer = a .0;
       consumer = a .1;
-      zeroed = λ k h. getD-replicate (n * 16 + 8) (0 + k) 0 0 (omega (arith, h));
     }
 
-pub two-accepted : Accepted 2
+pub two-accepted : Accepted packed 2
 unfolding made.openOf made.freshOf taken.openOf taken.freshOf badLayout outside apart upFrom
 two-accepted = (refl, refl)
 
-abbrev pub two : Opening
-two = over-zeros 2 two-accepted
-
-abbrev pub world-two : World
-world-two = openedWorld two
-
-pub three-accepted : Accepted 3
+pub three-accepted : Accepted packed 3
 unfolding made.openOf made.freshOf taken.openOf taken.freshOf badLayout outside apart upFrom
 three-accepted = (refl, refl)
 
-abbrev pub three : Opening
-three = over-zeros 3 three-accepted
+abbrev pub three : Opening packed
+three = over-zeros packed 3 three-accepted
 
 abbrev pub world-three : World
-world-three = openedWorld three
+world-three = openedWorld packed three
 
 -- ---- calls with arguments of their types
 
@@ -89,9 +89,12 @@ all-below n (x ∷ xs) p h (suc i) = all-below n xs p (both (ltb x n) (below n x
 pub typed : (c : Chain) → below (256 ^ 8) (c .addrs) ≡ true → below (256 ^ 4) (c .lens) ≡ true → TypedChain c
 typed c a l = (all-below (256 ^ 8) (c .addrs) (omega arith) a, all-below (256 ^ 4) (c .lens) (omega arith) l)
 
--- a call whose arguments are of any value
-abbrev pub does : (c : Own) → Typed c → Given
-does c t = record { call = own c; typed = t }
+-- a call of the producer, one of the consumer, and one given what is not the end's own
+abbrev pub makes : (c : ProducerCall) → TypedProducer c → Given
+makes c t = record { call = own (byProducer c); typed = t }
+
+abbrev pub takes : (c : ConsumerCall) → TypedConsumer c → Given
+takes c t = record { call = own (byConsumer c); typed = t }
 
 abbrev pub strays : Foreign → Given
 strays f = record { call = foreign f; typed = tt }
@@ -108,51 +111,43 @@ abbrev pub chain : List ℕ → List ℕ → ℕ → Chain
 chain xs ls r = record { addrs = xs; lens = ls; readable = r }
 
 abbrev pub submits : (c : Chain) → below (256 ^ 8) (c .addrs) ≡ true → below (256 ^ 4) (c .lens) ≡ true → Given
-submits c a l = does (submitAvailable c) (typed c a l)
+submits c a l = makes (submitAvailable c) (typed c a l)
 
 abbrev pub submitsOne : (addr len : ℕ) (writable : Bool) → below (256 ^ 8) (addr ∷ []) ≡ true → below (256 ^ 4) (len ∷ []) ≡ true → Given
-submitsOne addr len w a l = does (submitOne addr len w) (typed (oneOf addr len w) a l)
+submitsOne addr len w a l = makes (submitOne addr len w) (typed (oneOf addr len w) a l)
 
 -- outputs of n entries each
 abbrev pub polls-for : ℕ → Given
-polls-for n = does (pollAvailable (zeros n) (zeros n)) tt
+polls-for n = takes (pollAvailable (zeros n) (zeros n)) tt
 
 pub ids-fit : (id len : ℕ) → ltb id (256 ^ 2) ≡ true → ltb len (256 ^ 4) ≡ true → (id < 256 ^ 2) × (len < 256 ^ 4)
 ids-fit id len i l = (ltb-true id (256 ^ 2) i, ltb-true len (256 ^ 4) l)
 
 abbrev pub completes : (id len : ℕ) → ltb id (256 ^ 2) ≡ true → ltb len (256 ^ 4) ≡ true → Given
-completes id len i l = does (submitUsed id len) (ids-fit id len i l)
+completes id len i l = takes (submitUsed id len) (ids-fit id len i l)
 
 -- a checkpoint of any value: the avail cursor, the used cursor, the slots in flight
 abbrev pub checkpoint : RingCursor → RingCursor → ℕ → Checkpoint
 checkpoint a u n = record { avail = a; used = u; inflight = n }
 
--- ---- a history with no rollback and no call given what is not its end's own: of it the premise asks nothing
+-- ---- a history with no rollback: of it the premise asks nothing
 
-abbrev pub plain : History Checkpoint → Bool
-plain [] = true
-plain (submitted x ∷ h) = plain h
-plain (polled x ∷ h) = plain h
-plain (completed d ∷ h) = plain h
-plain (reclaimed d ∷ h) = plain h
-plain (marked c ∷ h) = plain h
-plain (rolled c js ∷ h) = false
-plain (looked (nexted i) ∷ h) = plain h
-plain (looked (peeked b) ∷ h) = plain h
-plain (looked quiet ∷ h) = plain h
-plain (looked (refused c good n) ∷ h) = plain h
-plain (looked (astray n) ∷ h) = false
+abbrev pub noneRolled : History Checkpoint → Bool
+noneRolled [] = true
+noneRolled (submitted x ∷ h) = noneRolled h
+noneRolled (polled x ∷ h) = noneRolled h
+noneRolled (completed d ∷ h) = noneRolled h
+noneRolled (reclaimed d ∷ h) = noneRolled h
+noneRolled (marked c ∷ h) = noneRolled h
+noneRolled (rolled c js ∷ h) = false
+noneRolled (unchanged u ∷ h) = noneRolled h
 
-pub nothing-asked : (h : History Checkpoint) → T (plain h) → Each (Asked Undoes) h
-nothing-asked [] t = tt
-nothing-asked (submitted x ∷ h) t = (nothing-asked h t, tt)
-nothing-asked (polled x ∷ h) t = (nothing-asked h t, tt)
-nothing-asked (completed d ∷ h) t = (nothing-asked h t, tt)
-nothing-asked (reclaimed d ∷ h) t = (nothing-asked h t, tt)
-nothing-asked (marked c ∷ h) t = (nothing-asked h t, tt)
-nothing-asked (rolled c js ∷ h) t = absurd t
-nothing-asked (looked (nexted i) ∷ h) t = (nothing-asked h t, tt)
-nothing-asked (looked (peeked b) ∷ h) t = (nothing-asked h t, tt)
-nothing-asked (looked quiet ∷ h) t = (nothing-asked h t, tt)
-nothing-asked (looked (refused c good n) ∷ h) t = (nothing-asked h t, tt)
-nothing-asked (looked (astray n) ∷ h) t = absurd t
+pub nothing-asked : (rules : Rules Checkpoint) (h : History Checkpoint) → T (noneRolled h) → Each (MayFollow rules) h
+nothing-asked rules [] t = tt
+nothing-asked rules (submitted x ∷ h) t = (nothing-asked rules h t, tt)
+nothing-asked rules (polled x ∷ h) t = (nothing-asked rules h t, tt)
+nothing-asked rules (completed d ∷ h) t = (nothing-asked rules h t, tt)
+nothing-asked rules (reclaimed d ∷ h) t = (nothing-asked rules h t, tt)
+nothing-asked rules (marked c ∷ h) t = (nothing-asked rules h t, tt)
+nothing-asked rules (rolled c js ∷ h) t = absurd t
+nothing-asked rules (unchanged u ∷ h) t = (nothing-asked rules h t, tt)

@@ -1,35 +1,79 @@
--- What is read off an answer: success or a refusal.
+-- What is read off the answers of the packed ring's calls, and the worlds after them, written short.
 -- Assumes nothing.
 use Prim.Native.Nat.{ℕ, _<_}
-use mathlib.Core.Path.{_≡_, refl, sym, ap, _∙_, subst}
-use mathlib.Core.Bool.{Bool, true, false, not, cond, _&&_, _||_}
-use mathlib.Core.List.{List}
-use native.Mathlib.Omega.{arith}
-use lib.Dec.{T, leb, eqb}
-use lib.ListN.{length}
-use borrow.Author.Tests.{ne-eqb}
+use mathlib.Core.Path.{_≡_, refl, sym}
+use mathlib.Core.Bool.{Bool, true, false, not, _&&_, _||_}
+use mathlib.Core.List.{List, []}
 use Rattle.base.specs.Answer.{Answer, refused}
-use Rattle.producer.specs.Poll as usedPoll
+use Rattle.producer.specs.Outcome as made
 use Rattle.consumer.specs.declared.Checkpoint.{Checkpoint}
-use Rattle.consumer.specs.Poll.{pollOf}
-use Rattle.queue.specs.History.{Event}
+use Rattle.consumer.specs.Outcome as takenOutcome
+use Rattle.consumer.specs.Poll.{Taken}
+use Rattle.queue.specs.History.{Chain, Request, Event}
 use Rattle.queue.specs.History as said
-use Rattle.queue.specs.Sentences.{isPoll, isReclaim}
-use Rattle.packed.specs.Calls.{pollUsed, pollAvailable, own}
-use Rattle.packed.specs.Machine.{World, either, no, ownSays, says}
+use Rattle.queue.specs.Says.{says}
+use Rattle.queue.proofs.Says.{says-refused}
+use Rattle.packed.specs.Calls.{asks, validChain, validOutputs, validCheckpoint}
+use Rattle.packed.specs.Machine.{World, ProducerLeaves, ConsumerLeaves, checkpointIn, afterProducer, afterConsumer, madeAll, madeChanged, takenChain, takenAll, takenBack, takenChanged}
 
--- what holds of both holds of it
-pub either-keeps : (P : Event Checkpoint → Type 0) (a : Answer) (x y : Event Checkpoint) → P x → P y → P (either a x y)
-either-keeps P a x y p q = go (eqb (a .number) 0)
-  where
-    go : (b : Bool) → P (cond b x y)
-    go true = p
-    go false = q
+-- ---- the event of each kind of call, by its answer
 
-pub either-refused :
-    (a : Answer) (n : ℕ) (x : Event Checkpoint) (c : said.Call Checkpoint) (g : Bool) → a ≡ refused n → 0 < n
-    → either a x (no c g a) ≡ said.looked (said.refused c g n)
-either-refused a n x c g e h = ap (λ (b : Answer). either b x (no c g b)) e ∙ simp (ne-eqb n 0 (λ z. omega arith))
+abbrev pub read : Request Checkpoint → Answer → Event Checkpoint
+read r a = says checkpointIn r a [] []
+
+abbrev pub saysSubmitted : Chain → Answer → Event Checkpoint
+saysSubmitted c = read (asks (said.submit c) (validChain c))
+
+abbrev pub saysReclaimed : Answer → Event Checkpoint
+saysReclaimed = read (asks said.reclaim true)
+
+abbrev pub saysNext : Answer → Event Checkpoint
+saysNext = read (asks said.nextId true)
+
+abbrev pub saysQuiet : Bool → Answer → Event Checkpoint
+saysQuiet v = read (asks said.other v)
+
+abbrev pub saysPolled : ℕ → List ℕ → List ℕ → Taken → Event Checkpoint
+saysPolled size outs louts t = says checkpointIn (asks said.poll (validOutputs size outs louts)) (t .answer) (t .addrs) (t .lens)
+
+abbrev pub saysCompleted : ℕ → ℕ → Answer → Event Checkpoint
+saysCompleted id len = read (asks (said.complete (record { id = id; len = len })) true)
+
+abbrev pub saysPeeked : Answer → Event Checkpoint
+saysPeeked = read (asks said.peek true)
+
+abbrev pub saysMarked : Answer → Event Checkpoint
+saysMarked = read (asks said.checkpoint true)
+
+abbrev pub saysRolled : ℕ → Checkpoint → List ℕ → Answer → Event Checkpoint
+saysRolled size c js = read (asks (said.rollback c js) (validCheckpoint size c))
+
+-- a refusal
+pub read-refused :
+    (a : Answer) (n : ℕ) (r : Request Checkpoint) → a ≡ refused n → 0 < n → read r a ≡ said.unchanged (said.refused (r .kind) (r .valid) n)
+read-refused a n r e h = says-refused checkpointIn r a n [] [] e h
+
+-- ---- the world after each kind of outcome
+
+abbrev pub afterMade : World → made.Outcome → World
+afterMade w o = afterProducer w (madeAll o .side) (o .ring)
+
+abbrev pub afterUsedTurn : World → made.Changed → World
+afterUsedTurn w o = afterProducer w (madeChanged (w .producer) o .side) (o .ring)
+
+abbrev pub afterTaken : World → Taken → World
+afterTaken w t = afterConsumer w (takenChain (w .ring) t .side) (w .ring)
+
+abbrev pub afterCompleted : World → takenOutcome.Outcome → World
+afterCompleted w o = afterConsumer w (takenAll o .side) (o .ring)
+
+abbrev pub afterRolled : World → takenOutcome.Rolled → World
+afterRolled w o = afterConsumer w (takenBack (w .ring) o .side) (w .ring)
+
+abbrev pub afterAvailTurn : World → takenOutcome.Changed → World
+afterAvailTurn w o = afterConsumer w (takenChanged (w .consumer) o .side) (o .ring)
+
+-- ---- tests
 
 pub and-true : (a b : Bool) → a ≡ true → b ≡ true → a && b ≡ true
 and-true a b p q = simp (p, q)
@@ -39,14 +83,7 @@ and-false true true h = sym h
 and-false true false h = refl
 and-false false b h = refl
 
--- ---- which calls count: whatever a poll is answered, its outputs being long enough, it is a poll that counts; so is every poll_used
-
-pub poll-counts :
-    (w : World) (outs louts : List ℕ) → leb (w .cons .layout .size) (length outs) && leb (w .cons .layout .size) (length louts) ≡ true
-    → T (isPoll (says w (own (pollAvailable outs louts))))
-unfolding says ownSays
-poll-counts w outs louts g = either-keeps (λ e. T (isPoll e)) (pollOf (w .cons) (w .ring) (w .heldCounts) outs louts .answer) _ _ tt (subst T (sym g) tt)
-
-pub reclaim-counts : (w : World) → T (isReclaim (says w (own pollUsed)))
-unfolding says ownSays
-reclaim-counts w = either-keeps (λ e. T (isReclaim e)) (usedPoll.pollOf (w .prod) (w .ring) (w .ids) (w .counts) .answer) _ _ tt tt
+pub not-and : (a b : Bool) → a && b ≡ false → not a || not b ≡ true
+not-and true true h = sym h
+not-and true false h = refl
+not-and false b h = refl

@@ -33,12 +33,13 @@ use Rattle.queue.specs.History as said
 use Rattle.queue.specs.Promise.{Has}
 use Rattle.queue.proofs.Listing.{all-left, all-right, all-map}
 use Rattle.queue.proofs.Model.{Queue, Mark, next}
-use Rattle.packed.specs.Machine.{World, saysCompleted, afterCompleted}
-use Rattle.packed.proofs.Answers.{either-refused}
+use Rattle.packed.specs.Calls.{asks}
+use Rattle.packed.specs.Machine.{World, afterConsumer}
+use Rattle.packed.proofs.Answers.{saysCompleted, afterCompleted, read-refused}
 use Rattle.packed.proofs.Position.{pos, round, view, pos-add, pos-low, apart}
 use Rattle.packed.proofs.Counts.{Held, Used, ofItems, hit, occ, slots, tot, Pos, hit-same, hit-other, occ-some, slots-none, one-le, one-no, at-clear, Out1, take-out, both-tot, both-occ, both-slots, both-pos, tot-used, occ-used, slots-used, used-pos, dones-append, has-of-occ}
 use Rattle.packed.proofs.Spells.{Spells, Returns, spells-cong, spells-split, returns-cong, returns-append}
-use Rattle.packed.proofs.Invariant.{FineItem, fine-pos, O, F, CheckOk, Like, Good, good-by, big, c-size, c-sound, c-lent, like-look}
+use Rattle.packed.proofs.Invariant.{FineItem, fine-pos, O, F, CheckOk, Like, Good, good-by, big, c-size, c-sound, c-lent, like-unchanged}
 
 -- an ID that holds slots, the other way round
 pub occ-slots : (y : ℕ) (hs : List Held) → Pos hs → 0 < occ y hs → 0 < slots y hs
@@ -59,25 +60,25 @@ module _ (l : Layout) (laid-out : badLayout l ≡ false) where
 
   module _ (ret : List Used) (w : World) (q : Queue Checkpoint) (k : Like l ret w q) (id len : ℕ) where
     abbrev completes : Outcome
-    completes = completeOf (w .cons) (w .ring) (w .heldCounts) id len
+    completes = completeOf (w .consumer .end) (w .ring) (w .consumer .counts) id len
 
     abbrev d : Done
     d = record { id = id; len = len }
 
     abbrev n : ℕ
-    n = getD (w .heldCounts) id 0
+    n = getD (w .consumer .counts) id 0
 
     -- refused with 5, and not held
-    complete-no : completeRefusal (w .cons) (length (w .ring)) id (w .heldCounts) ≡ 5 → (Has id (q .old ++ q .fresh) → ⊥)
+    complete-no : completeRefusal (w .consumer .end) (length (w .ring)) id (w .consumer .counts) ≡ 5 → (Has id (q .old ++ q .fresh) → ⊥)
         → Good l q (saysCompleted id len (completes .answer)) (afterCompleted w completes)
     complete-no e h =
-        let t : completes ≡ outcome (refused 5) (w .cons) (w .ring) (w .heldCounts) =
-        complete-refused (w .cons) (w .ring) (w .heldCounts) id len (λ y. omega (arith, e, y))
-        ∙ ap (λ (x : ℕ). outcome (refused x) (w .cons) (w .ring) (w .heldCounts)) e in
-        good-by l q _ (said.looked (said.refused (said.complete d) true 5)) _ w
-        (either-refused (completes .answer) 5 _ (said.complete d) true (ap (λ (o : Outcome). o .answer) t) (omega arith))
+        let t : completes ≡ outcome (refused 5) (w .consumer .end) (w .ring) (w .consumer .counts) =
+        complete-refused (w .consumer .end) (w .ring) (w .consumer .counts) id len (λ y. omega (arith, e, y))
+        ∙ ap (λ (x : ℕ). outcome (refused x) (w .consumer .end) (w .ring) (w .consumer .counts)) e in
+        good-by l q _ (said.unchanged (said.refused (said.complete d) true 5)) _ w
+        (read-refused (completes .answer) 5 (asks (said.complete d) true) (ap (λ (o : Outcome). o .answer) t) (omega arith))
         (ap (afterCompleted w) t)
-        ((refl, h), (ret, like-look l laid-out ret w q k (said.refused (said.complete d) true 5) (k .promise)))
+        (λ g. (λ z. z, inr (refl, (refl, h))), (ret, like-unchanged l laid-out ret w q k (said.refused (said.complete d) true 5) (k .promise)))
 
     held-some : Has id (q .old ++ q .fresh) → (id < size) × (0 < n)
     held-some h =
@@ -104,9 +105,9 @@ module _ (l : Layout) (laid-out : badLayout l ≡ false) where
       tots : tot (O q) + tot (F q) ≡ tot (ofItems (items (without id (q .old ++ q .fresh)))) + n
       tots = omega (arith, out .tot-is, both-tot (q .old) (q .fresh), out-n)
 
-      accepted : completeRefusal (w .cons) (length (w .ring)) id (w .heldCounts) ≡ 0
+      accepted : completeRefusal (w .consumer .end) (length (w .ring)) id (w .consumer .counts) ≡ 0
       accepted =
-          complete-goes (w .cons) (length (w .ring)) id (w .heldCounts) (c-sound l laid-out ret w q k) (c-lent l laid-out ret w q k)
+          complete-goes (w .consumer .end) (length (w .ring)) id (w .consumer .counts) (c-sound l laid-out ret w q k) (c-lent l laid-out ret w q k)
           (omega (arith, low, c-size l laid-out ret w q k)) some-held (omega (arith, k .inflight, tots))
 
       abbrev mark : Descriptor
@@ -118,22 +119,22 @@ module _ (l : Layout) (laid-out : badLayout l ≡ false) where
       abbrev cons′ : RingConsumer
       cons′ =
           record {
-            layout = w .cons .layout;
-            avail = w .cons .avail;
-            used = steps (w .cons .layout .size) n (w .cons .used);
-            inflight = w .cons .inflight - n;
-            shadow = w .cons .shadow;
+            layout = w .consumer .end .layout;
+            avail = w .consumer .end .avail;
+            used = steps (w .consumer .end .layout .size) n (w .consumer .end .used);
+            inflight = w .consumer .end .inflight - n;
+            shadow = w .consumer .end .shadow;
           }
 
       abbrev complete-world : World
-      complete-world = record { prod = w .prod; ids = w .ids; counts = w .counts; cons = cons′; heldCounts = set (w .heldCounts) id 0; ring = ring′ }
+      complete-world = afterConsumer w (record { end = cons′; counts = set (w .consumer .counts) id 0 }) ring′
 
-      is-completed : completes ≡ outcome (done []) cons′ ring′ (set (w .heldCounts) id 0)
+      is-completed : completes ≡ outcome (done []) cons′ ring′ (set (w .consumer .counts) id 0)
       is-completed =
-          complete-done (w .cons) (w .ring) (w .heldCounts) id len accepted
+          complete-done (w .consumer .end) (w .ring) (w .consumer .counts) id len accepted
           ∙ (λ i.
-          outcome (done []) (completed-is (w .cons) n i)
-          (slotPut (k .c-layout i .table) (k .c-used i) (markUsed (descriptor 0 len id 0) (k .c-used i .wrap)) (w .ring)) (set (w .heldCounts) id 0))
+          outcome (done []) (completed-is (w .consumer .end) n i)
+          (slotPut (k .c-layout i .table) (k .c-used i) (markUsed (descriptor 0 len id 0) (k .c-used i .wrap)) (w .ring)) (set (w .consumer .counts) id 0))
 
       fits : l .table + pos size (k .cu) .head * 16 + 16 ≤ length (w .ring)
       fits = omega (arith, pos-low size (big l laid-out) (k .cu), within l (length (w .ring)) (k .whole) .table)
@@ -196,7 +197,7 @@ module _ (l : Layout) (laid-out : badLayout l ≡ false) where
             whole = ap (outside l) (slot-length (l .table) (pos size (k .cu)) mark (w .ring)) ∙ k .whole;
             ids-whole = k .ids-whole;
             counts-whole = k .counts-whole;
-            held-whole = omega (arith, k .held-whole, length-set (w .heldCounts) id 0);
+            held-whole = omega (arith, k .held-whole, length-set (w .consumer .counts) id 0);
             spelled =
                 spells-cong size f g (k .ca) (q .waiting) (λ p a b. later p (omega (arith, ahead)) (omega (arith, k .pa-is, k .room, k .cu-is)))
                 (subst (λ (x : ℕ). Spells size f x (q .waiting)) (sym (k .ca-is)) (spells-split size f (k .fa) (items (q .fresh)) (q .waiting) (k .spelled) .1));
@@ -212,7 +213,7 @@ module _ (l : Layout) (laid-out : badLayout l ≡ false) where
             r-pos = used-pos ret u (k .r-pos) some-held;
             once = λ y. omega (arith, k .once y, out .occ-is y, both-occ y (q .old) (q .fresh), occ-used y ret u);
             p-nums = λ y b. omega (arith, k .p-nums y b, out .slots-is y, both-slots y (q .old) (q .fresh), slots-used y ret u, ap (hit id y) out-n);
-            c-nums = λ y b. omega (arith, k .c-nums y b, out .slots-is y, both-slots y (q .old) (q .fresh), at-clear (w .heldCounts) id y (omega (arith, low, k .held-whole)), ap (hit id y) out-n);
+            c-nums = λ y b. omega (arith, k .c-nums y b, out .slots-is y, both-slots y (q .old) (q .fresh), at-clear (w .consumer .counts) id y (omega (arith, low, k .held-whole)), ap (hit id y) out-n);
             heights = k .heights;
             out-pos = k .out-pos;
             out-occ = λ y. omega (arith, k .out-occ y, out .occ-is y, both-occ y (q .old) (q .fresh), occ-used y ret u);
@@ -227,7 +228,7 @@ module _ (l : Layout) (laid-out : badLayout l ≡ false) where
       complete-gives : Good l q (saysCompleted id len (completes .answer)) (afterCompleted w completes)
       complete-gives =
           good-by l q _ (said.completed d) _ complete-world (ap (λ (o : Outcome). saysCompleted id len (o .answer)) is-completed) (ap (afterCompleted w) is-completed)
-          (has-of-occ id (q .old ++ q .fresh) complete-occ, (ret ++ (u ∷ []), complete-like))
+          (λ h. has-of-occ id (q .old ++ q .fresh) complete-occ, (ret ++ (u ∷ []), complete-like))
 
     -- COMPLETE: any ID
     pub complete-good : id < 256 ^ 2 → len < 256 ^ 4 → Good l q (saysCompleted id len (completes .answer)) (afterCompleted w completes)
@@ -240,18 +241,18 @@ module _ (l : Layout) (laid-out : badLayout l ≡ false) where
         by-lt 0 n
         (λ z. complete-gives low z idr lenr)
         (λ z. complete-no
-        (complete-unheld (w .cons) (length (w .ring)) id (w .heldCounts) r t (simp (lt-leb (w .cons .layout .size) id (omega (arith, low, c)), eq-eqb n 0 (omega arith))))
+        (complete-unheld (w .consumer .end) (length (w .ring)) id (w .consumer .counts) r t (simp (lt-leb (w .consumer .end .layout .size) id (omega (arith, low, c)), eq-eqb n 0 (omega arith))))
         (λ h. omega (arith, held-some h .1, z))))
         (λ high. complete-no
-        (complete-unheld (w .cons) (length (w .ring)) id (w .heldCounts) r t (simp (le-leb (w .cons .layout .size) id (omega (arith, high, c)))))
+        (complete-unheld (w .consumer .end) (length (w .ring)) id (w .consumer .counts) r t (simp (le-leb (w .consumer .end .layout .size) id (omega (arith, high, c)))))
         (λ h. omega (arith, held-some h .0, high)))
 
     -- WITH NOTIFY: the same, said and left
     pub told-good :
         id < 256 ^ 2 → len < 256 ^ 4
-        → Good l q (saysCompleted id len (tellOf (w .cons .used) completes .answer)) (afterCompleted w (tellOf (w .cons .used) completes))
+        → Good l q (saysCompleted id len (tellOf (w .consumer .end .used) completes .answer)) (afterCompleted w (tellOf (w .consumer .end .used) completes))
     told-good idr lenr =
         good-by l q _ (saysCompleted id len (completes .answer)) _ (afterCompleted w completes)
-        (ap (λ (m : ℕ). cond (eqb m 0) (said.completed d) (said.looked (said.refused (said.complete d) true m))) (tell-number (w .cons .used) completes))
-        (ap (afterCompleted w) (tell-leaves (w .cons .used) completes))
+        (ap (λ (m : ℕ). cond (eqb m 0) (said.completed d) (said.unchanged (said.refused (said.complete d) true m))) (tell-number (w .consumer .end .used) completes))
+        (ap (afterCompleted w) (tell-leaves (w .consumer .end .used) completes))
         (complete-good idr lenr)

@@ -1,7 +1,7 @@
 -- Two fresh ends over a zeroed ring are like the empty queue.
 -- Assumes nothing.
 use Prim.Native.Nat.{ℕ, _+_, _*_, _≤_, _<_}
-use mathlib.Core.Path.{_≡_, refl, sym, ap, _∙_}
+use mathlib.Core.Path.{_≡_, refl, sym, ap, _∙_, subst}
 use mathlib.Core.Bool.{false, _||_}
 use mathlib.Core.List.{List, [], _∷_}
 use native.Mathlib.Omega.{arith}
@@ -32,23 +32,27 @@ use Rattle.consumer.specs.Fresh as taken
 use Rattle.consumer.proofs.Reset as takenLaws
 use Rattle.consumer.proofs.Goes as takes
 use Rattle.queue.proofs.Model.{start}
-use Rattle.packed.specs.Opening.{Opening, layoutOf, producerOpens, consumerOpens, openedWorld}
+use Rattle.packed.specs.Machine.{packed, producerOpensOf, consumerOpensOf}
+use Rattle.packed.specs.Opening.{Opening, openedWorld}
 use Rattle.packed.proofs.Position.{pos, view, pos-low, pos-start, round-early}
 use Rattle.packed.proofs.Counts.{occS, one, occ-up, one-no}
 use Rattle.packed.proofs.Invariant.{Like}
 
-module _ (o : Opening) where
+module _ (o : Opening packed) where
+  abbrev at : Layout
+  at = o .geometry
+
   abbrev size : ℕ
-  size = o .size
+  size = at .size
 
   abbrev table : ℕ
-  table = o .table
+  table = at .table
 
   abbrev driver : ℕ
-  driver = o .driver
+  driver = at .driver
 
   abbrev device : ℕ
-  device = o .device
+  device = at .device
 
   abbrev ring : List ℕ
   ring = o .ring
@@ -62,18 +66,31 @@ module _ (o : Opening) where
   abbrev held : List ℕ
   held = o .heldCounts
 
-  abbrev at : Layout
-  at = layoutOf o
+  -- what the two `new` left
+  abbrev producerOpens : made.Open
+  producerOpens = producerOpensOf at (o .producerFinds) ids counts
+
+  abbrev consumerOpens : taken.Open
+  consumerOpens = consumerOpensOf at (o .consumerFinds) held
 
   -- what two accepted openings say of the geometry and of what is lent
-  opens : badLayout at || outside at (length ring) ≡ false
-  opens =
-      split (badLayout at || outside at (length ring))
-      (λ t. absurd (no-six (ap (λ (x : made.Open). x .answer .number) (sym (madeLaws.opening-refused size table driver device ring ids counts t)) ∙ o .producer)))
+  producer-opens : badLayout at || outside at (length (o .producerFinds)) ≡ false
+  producer-opens =
+      split (badLayout at || outside at (length (o .producerFinds)))
+      (λ t. absurd (no-six (ap (λ (x : made.Open). x .answer .number) (sym (madeLaws.opening-refused size table driver device (o .producerFinds) ids counts t)) ∙ o .producer)))
       (λ f. f)
     where
       no-six : _≡_ {A = ℕ} 6 0 → ⊥
       no-six e = omega arith
+
+  opens-at : (bytes : List ℕ) → length bytes ≡ length ring → badLayout at || outside at (length bytes) ≡ false
+  opens-at bytes e = subst (λ (n : ℕ). badLayout at || outside at n ≡ false) (o .producer-length ∙ sym e) producer-opens
+
+  opens : badLayout at || outside at (length ring) ≡ false
+  opens = opens-at ring refl
+
+  consumer-opens : badLayout at || outside at (length (o .consumerFinds)) ≡ false
+  consumer-opens = opens-at (o .consumerFinds) (o .consumer-length)
 
   pub laid-out : badLayout at ≡ false
   laid-out = neither (badLayout at) (outside at (length ring)) opens .0
@@ -81,14 +98,14 @@ module _ (o : Opening) where
   pub fits : outside at (length ring) ≡ false
   fits = neither (badLayout at) (outside at (length ring)) opens .1
 
+  no-eight : _≡_ {A = ℕ} 8 0 → ⊥
+  no-eight e = omega arith
+
   tables : ltb (length ids) size || ltb (length counts) size ≡ false
   tables =
       split (ltb (length ids) size || ltb (length counts) size)
-      (λ t. absurd (no-eight (ap (λ (x : made.Open). x .answer .number) (sym (madeLaws.opening-short size table driver device ring ids counts opens t)) ∙ o .producer)))
+      (λ t. absurd (no-eight (ap (λ (x : made.Open). x .answer .number) (sym (madeLaws.opening-short size table driver device (o .producerFinds) ids counts producer-opens t)) ∙ o .producer)))
       (λ f. f)
-    where
-      no-eight : _≡_ {A = ℕ} 8 0 → ⊥
-      no-eight e = omega arith
 
   ids-long : size ≤ length ids
   ids-long = ltb-false (length ids) size (neither (ltb (length ids) size) (ltb (length counts) size) tables .0)
@@ -99,27 +116,24 @@ module _ (o : Opening) where
   held-long : size ≤ length held
   held-long =
       by-lt (length held) size
-      (λ h. absurd (no-eight (ap (λ (x : taken.Open). x .answer .number) (sym (takenLaws.opening-short size table driver device ring held opens h)) ∙ o .consumer)))
+      (λ h. absurd (no-eight (ap (λ (x : taken.Open). x .answer .number) (sym (takenLaws.opening-short size table driver device (o .consumerFinds) held consumer-opens h)) ∙ o .consumer)))
       (λ h. h)
-    where
-      no-eight : _≡_ {A = ℕ} 8 0 → ⊥
-      no-eight e = omega arith
 
-  ids-are : producerOpens o .ids ≡ sets ids 0 (upTo size)
-  ids-are = ap (λ (x : made.Open). x .ids) (madeLaws.opening-done size table driver device ring ids counts opens tables)
+  ids-are : producerOpens .ids ≡ sets ids 0 (upTo size)
+  ids-are = ap (λ (x : made.Open). x .ids) (madeLaws.opening-done size table driver device (o .producerFinds) ids counts producer-opens tables)
 
-  counts-are : producerOpens o .counts ≡ sets counts 0 (replicate size 0)
-  counts-are = ap (λ (x : made.Open). x .counts) (madeLaws.opening-done size table driver device ring ids counts opens tables)
+  counts-are : producerOpens .counts ≡ sets counts 0 (replicate size 0)
+  counts-are = ap (λ (x : made.Open). x .counts) (madeLaws.opening-done size table driver device (o .producerFinds) ids counts producer-opens tables)
 
-  held-are : consumerOpens o .counts ≡ sets held 0 (replicate size 0)
-  held-are = ap (λ (x : taken.Open). x .counts) (takenLaws.opening-done size table driver device ring held opens held-long)
+  held-are : consumerOpens .counts ≡ sets held 0 (replicate size 0)
+  held-are = ap (λ (x : taken.Open). x .counts) (takenLaws.opening-done size table driver device (o .consumerFinds) held consumer-opens held-long)
 
   -- the records of the opened world are those that the openings answered
-  pub made-answer : producerOpens o .answer ≡ done (made.recordValues (openedWorld o .prod))
-  made-answer = ap (λ (x : made.Open). x .answer) (madeLaws.opening-done size table driver device ring ids counts opens tables)
+  pub made-answer : producerOpens .answer ≡ done (made.recordValues (openedWorld packed o .producer .end))
+  made-answer = ap (λ (x : made.Open). x .answer) (madeLaws.opening-done size table driver device (o .producerFinds) ids counts producer-opens tables)
 
-  pub taken-answer : consumerOpens o .answer ≡ done (taken.recordValues (openedWorld o .cons))
-  taken-answer = ap (λ (x : taken.Open). x .answer) (takenLaws.opening-done size table driver device ring held opens held-long)
+  pub taken-answer : consumerOpens .answer ≡ done (taken.recordValues (openedWorld packed o .consumer .end))
+  taken-answer = ap (λ (x : taken.Open). x .answer) (takenLaws.opening-done size table driver device (o .consumerFinds) held consumer-opens held-long)
 
   zeros-at : (t : List ℕ) (y : ℕ) → size ≤ length t → y < size → getD (sets t 0 (replicate size 0)) y 0 ≡ 0
   zeros-at t y h b =
@@ -137,7 +151,7 @@ module _ (o : Opening) where
       ap (λ (i : ℕ). getD ring i 0) (omega arith)
       ∙ o .zeroed (pos size p .head * 16 + k) (omega (arith, b))))
 
-  pub first-like : Like at [] (openedWorld o) start
+  pub first-like : Like at [] (openedWorld packed o) start
   first-like =
       let big = laid at laid-out .low in
       let p = makes.fresh-is at in
@@ -190,12 +204,12 @@ module _ (o : Opening) where
 
       stacked :
           (y : ℕ) → made.freshOf at ≡ record { layout = at; avail = fresh; used = fresh; free = size; height = size; shadow = ENABLE }
-          → occS y (take (made.freshOf at .height) (producerOpens o .ids)) + (0 + (0 + 0) + 0) ≡ one size y
+          → occS y (take (made.freshOf at .height) (producerOpens .ids)) + (0 + (0 + 0) + 0) ≡ one size y
       stacked y p =
           let n = up-length 0 size in
           let t : take size (sets ids 0 (upTo size)) ≡ upTo size =
           ap (λ (m : ℕ). take m (sets ids 0 (upTo size))) (sym n) ∙ part-same (upTo size) ids 0 (omega (arith, n, ids-long)) in
-          let a : occS y (take (made.freshOf at .height) (producerOpens o .ids)) ≡ occS y (upTo size) =
-          ap (λ (x : RingProducer). occS y (take (x .height) (producerOpens o .ids))) p
+          let a : occS y (take (made.freshOf at .height) (producerOpens .ids)) ≡ occS y (upTo size) =
+          ap (λ (x : RingProducer). occS y (take (x .height) (producerOpens .ids))) p
           ∙ ap (λ (s : List ℕ). occS y (take size s)) ids-are ∙ ap (occS y) t in
           omega (arith, a, occ-up y 0 size, one-no 0 y (omega arith), ap (λ (m : ℕ). one m y) (zero-add size))

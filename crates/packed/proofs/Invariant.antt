@@ -18,9 +18,9 @@ use Rattle.producer.proofs.Goes as makes
 use Rattle.consumer.specs.Record as takes
 use Rattle.consumer.specs.declared.Checkpoint.{Checkpoint}
 use Rattle.consumer.proofs.Goes as polls
-use Rattle.queue.specs.History.{Item, Event, Look, slotsIn, items}
+use Rattle.queue.specs.History.{Item, Event, History, Unchanged, slotsIn, items}
 use Rattle.queue.specs.History as said
-use Rattle.queue.specs.Promise.{Fine}
+use Rattle.queue.specs.Promise.{Fine, plain}
 use Rattle.queue.specs.Sentences.{All}
 use Rattle.queue.proofs.Model.{Queue, Mark, next, looking, Ok}
 use Rattle.packed.specs.Machine.{World}
@@ -73,21 +73,21 @@ module _ (l : Layout) where
     pub fa-is : fa ≡ cu + tot (O q)
     pub ca-is : ca ≡ fa + tot (F q)
     pub pa-is : pa ≡ ca + tot (W q)
-    pub room : pa + w .prod .free ≡ pu + size
+    pub room : pa + w .producer .end .free ≡ pu + size
     pub begun : size ≤ pu
     -- the records
-    pub p-layout : w .prod .layout ≡ l
-    pub c-layout : w .cons .layout ≡ l
-    pub p-used : w .prod .used ≡ pos size pu
-    pub c-used : w .cons .used ≡ pos size cu
-    pub c-avail : w .cons .avail ≡ pos size ca
-    pub p-avail : w .prod .avail ≡ pos size pa
-    pub inflight : w .cons .inflight ≡ tot (O q) + tot (F q)
+    pub p-layout : w .producer .end .layout ≡ l
+    pub c-layout : w .consumer .end .layout ≡ l
+    pub p-used : w .producer .end .used ≡ pos size pu
+    pub c-used : w .consumer .end .used ≡ pos size cu
+    pub c-avail : w .consumer .end .avail ≡ pos size ca
+    pub p-avail : w .producer .end .avail ≡ pos size pa
+    pub inflight : w .consumer .end .inflight ≡ tot (O q) + tot (F q)
     -- what is lent is whole
     pub whole : outside l (length (w .ring)) ≡ false
-    pub ids-whole : size ≤ length (w .ids)
-    pub counts-whole : size ≤ length (w .counts)
-    pub held-whole : size ≤ length (w .heldCounts)
+    pub ids-whole : size ≤ length (w .producer .ids)
+    pub counts-whole : size ≤ length (w .producer .counts)
+    pub held-whole : size ≤ length (w .consumer .counts)
     -- the slots
     pub spelled : Spells size (view size (l .table) (w .ring)) fa (items (q .fresh) ++ q .waiting)
     pub returned : Returns size (view size (l .table) (w .ring)) pu ret
@@ -100,27 +100,36 @@ module _ (l : Layout) where
     pub o-pos : Pos (O q)
     pub r-pos : Pos (ofUsed ret)
     pub once :
-        (y : ℕ) → occS y (take (w .prod .height) (w .ids)) + (occ y (W q) + (occ y (O q) + occ y (F q)) + occ y (ofUsed ret)) ≡ one size y
-    pub p-nums : (y : ℕ) → y < size → getD (w .counts) y 0 ≡ slots y (W q) + (slots y (O q) + slots y (F q)) + slots y (ofUsed ret)
-    pub c-nums : (y : ℕ) → y < size → getD (w .heldCounts) y 0 ≡ slots y (O q) + slots y (F q)
+        (y : ℕ) → occS y (take (w .producer .end .height) (w .producer .ids)) + (occ y (W q) + (occ y (O q) + occ y (F q)) + occ y (ofUsed ret)) ≡ one size y
+    pub p-nums : (y : ℕ) → y < size → getD (w .producer .counts) y 0 ≡ slots y (W q) + (slots y (O q) + slots y (F q)) + slots y (ofUsed ret)
+    pub c-nums : (y : ℕ) → y < size → getD (w .consumer .counts) y 0 ≡ slots y (O q) + slots y (F q)
     -- the chains that are out are those that wait, are held, or are completed and not returned
-    pub heights : w .prod .height + length (q .out) ≡ size
+    pub heights : w .producer .end .height + length (q .out) ≡ size
     pub out-pos : Pos (ofItems (q .out))
     pub out-occ : (y : ℕ) → occ y (ofItems (q .out)) ≡ occ y (W q) + (occ y (O q) + occ y (F q)) + occ y (ofUsed ret)
     pub out-slots : (y : ℕ) → slots y (ofItems (q .out)) ≡ slots y (W q) + (slots y (O q) + slots y (F q)) + slots y (ofUsed ret)
     pub out-tot : tot (ofItems (q .out)) ≡ tot (W q) + (tot (O q) + tot (F q)) + tot (ofUsed ret)
-    pub promise : (i : ℕ) → q .promised ≡ i ∷ [] → (0 < w .prod .height) × (topOf (w .prod) (w .ids) ≡ i)
+    pub promise : (i : ℕ) → q .promised ≡ i ∷ [] → (0 < w .producer .end .height) × (topOf (w .producer .end) (w .producer .ids) ≡ i)
     pub checks : All (CheckOk size (q .comps) cu (tot (O q))) (q .marks)
 
   abbrev pub Match : World → Queue Checkpoint → Type 0
   Match w q = (ret : List Used) × Like ret w q
 
-  -- what is owed of a call: its answer is allowed, and the world after it is like the queue after it
+  -- what is owed of a call after a history: its answer is allowed, and the world after it is like the queue after it
+  abbrev pub GoodAfter : History Checkpoint → Queue Checkpoint → Event Checkpoint → World → Type 0
+  GoodAfter h q e w = Ok (plain size) h q e × Match w (next q e)
+
+  -- the same after any history: of all calls but rollbacks, the queue alone says what is allowed
   abbrev pub Good : Queue Checkpoint → Event Checkpoint → World → Type 0
-  Good q e w = Ok size q e × Match w (next q e)
+  Good q e w = ((h : History Checkpoint) → Ok (plain size) h q e) × Match w (next q e)
 
   pub good-by : (q : Queue Checkpoint) (e f : Event Checkpoint) (v w : World) → e ≡ f → v ≡ w → Good q f w → Good q e v
   good-by q e f v w a b g = subst (λ (x : Event Checkpoint). Good q x v) (sym a) (subst (λ (x : World). Good q f x) (sym b) g)
+
+  pub good-after-by :
+      (h : History Checkpoint) (q : Queue Checkpoint) (e f : Event Checkpoint) (v w : World) → e ≡ f → v ≡ w → GoodAfter h q f w → GoodAfter h q e v
+  good-after-by h q e f v w a b g =
+      subst (λ (x : Event Checkpoint). GoodAfter h q x v) (sym a) (subst (λ (x : World). GoodAfter h q f x) (sym b) g)
 
   module _ (laid-out : badLayout l ≡ false) where
     pub big : 0 < size
@@ -128,52 +137,52 @@ module _ (l : Layout) where
 
     module _ (ret : List Used) (w : World) (q : Queue Checkpoint) (k : Like ret w q) where
       -- the positions' order
-      pub free-slots : w .prod .free + tot (ofItems (q .out)) ≡ size
+      pub free-slots : w .producer .end .free + tot (ofItems (q .out)) ≡ size
       free-slots = omega (arith, k .out-tot, k .room, k .pa-is, k .ca-is, k .fa-is, k .cu-is)
 
-      pub free-in : w .prod .free + slotsIn (q .out) ≡ size
+      pub free-in : w .producer .end .free + slotsIn (q .out) ≡ size
       free-in = omega (arith, free-slots, slots-tot (q .out))
 
       -- neither record is bad, and nothing that is lent
-      pub p-size : w .prod .layout .size ≡ size
+      pub p-size : w .producer .end .layout .size ≡ size
       p-size = ap (λ (m : Layout). m .size) (k .p-layout)
 
-      pub c-size : w .cons .layout .size ≡ size
+      pub c-size : w .consumer .end .layout .size ≡ size
       c-size = ap (λ (m : Layout). m .size) (k .c-layout)
 
       head-low : (c : RingCursor) (p : ℕ) → c ≡ pos size p → c .head < size
       head-low c p e = rw e (pos-low size big p)
 
-      pub p-sound : made.badRecord (w .prod) ≡ false
+      pub p-sound : made.badRecord (w .producer .end) ≡ false
       p-sound =
-          makes.not-bad (w .prod)
+          makes.not-bad (w .producer .end)
           (ap badLayout (k .p-layout) ∙ laid-out)
-          (omega (arith, p-size, head-low (w .prod .avail) (k .pa) (k .p-avail)))
-          (omega (arith, p-size, head-low (w .prod .used) (k .pu) (k .p-used)))
+          (omega (arith, p-size, head-low (w .producer .end .avail) (k .pa) (k .p-avail)))
+          (omega (arith, p-size, head-low (w .producer .end .used) (k .pu) (k .p-used)))
           (omega (arith, p-size, free-slots))
           (omega (arith, p-size, k .heights))
 
-      pub p-whole : outside (w .prod .layout) (length (w .ring)) ≡ false
+      pub p-whole : outside (w .producer .end .layout) (length (w .ring)) ≡ false
       p-whole = ap (λ (m : Layout). outside m (length (w .ring))) (k .p-layout) ∙ k .whole
 
-      pub p-lent : made.badLent (w .prod) (length (w .ring)) (length (w .ids)) (length (w .counts)) ≡ false
+      pub p-lent : made.badLent (w .producer .end) (length (w .ring)) (length (w .producer .ids)) (length (w .producer .counts)) ≡ false
       p-lent =
-          makes.not-bad-lent (w .prod) (length (w .ring)) (length (w .ids)) (length (w .counts)) p-whole
+          makes.not-bad-lent (w .producer .end) (length (w .ring)) (length (w .producer .ids)) (length (w .producer .counts)) p-whole
           (omega (arith, p-size, k .ids-whole)) (omega (arith, p-size, k .counts-whole))
 
-      pub c-sound : takes.badRecord (w .cons) ≡ false
+      pub c-sound : takes.badRecord (w .consumer .end) ≡ false
       c-sound =
-          polls.not-bad (w .cons)
+          polls.not-bad (w .consumer .end)
           (ap badLayout (k .c-layout) ∙ laid-out)
-          (omega (arith, c-size, head-low (w .cons .avail) (k .ca) (k .c-avail)))
-          (omega (arith, c-size, head-low (w .cons .used) (k .cu) (k .c-used)))
+          (omega (arith, c-size, head-low (w .consumer .end .avail) (k .ca) (k .c-avail)))
+          (omega (arith, c-size, head-low (w .consumer .end .used) (k .cu) (k .c-used)))
           (omega (arith, c-size, k .inflight, free-slots, k .out-tot))
 
-      pub c-whole : outside (w .cons .layout) (length (w .ring)) ≡ false
+      pub c-whole : outside (w .consumer .end .layout) (length (w .ring)) ≡ false
       c-whole = ap (λ (m : Layout). outside m (length (w .ring))) (k .c-layout) ∙ k .whole
 
-      pub c-lent : takes.badLent (w .cons) (length (w .ring)) (length (w .heldCounts)) ≡ false
-      c-lent = polls.not-bad-lent (w .cons) (length (w .ring)) (length (w .heldCounts)) c-whole (omega (arith, c-size, k .held-whole))
+      pub c-lent : takes.badLent (w .consumer .end) (length (w .ring)) (length (w .consumer .counts)) ≡ false
+      c-lent = polls.not-bad-lent (w .consumer .end) (length (w .ring)) (length (w .consumer .counts)) c-whole (omega (arith, c-size, k .held-whole))
 
       -- the producer's next slot holds the round before
       pub edge : has (view size (l .table) (w .ring) (k .pa) .flags) AVAIL ≡ not (round size (k .pa))
@@ -197,19 +206,25 @@ module _ (l : Layout) where
       -- the world with other shadows and other bytes
       abbrev pub with-shadows : ℕ → ℕ → List ℕ → World
       with-shadows s t r =
+          let p = w .producer .end in
+          let c = w .consumer .end in
           record {
-            prod = record { layout = w .prod .layout; avail = w .prod .avail; used = w .prod .used; free = w .prod .free; height = w .prod .height; shadow = s };
-            ids = w .ids;
-            counts = w .counts;
-            cons = record { layout = w .cons .layout; avail = w .cons .avail; used = w .cons .used; inflight = w .cons .inflight; shadow = t };
-            heldCounts = w .heldCounts;
+            producer = record {
+              end = record { layout = p .layout; avail = p .avail; used = p .used; free = p .free; height = p .height; shadow = s };
+              ids = w .producer .ids;
+              counts = w .producer .counts;
+            };
+            consumer = record {
+              end = record { layout = c .layout; avail = c .avail; used = c .used; inflight = c .inflight; shadow = t };
+              counts = w .consumer .counts;
+            };
             ring = r;
           }
 
       -- the invariant speaks neither of the shadows nor of bytes in no slot
       like-with :
           (s t : ℕ) (r : List ℕ) → length r ≡ length (w .ring) → ((p : ℕ) → view size (l .table) (w .ring) p ≡ view size (l .table) r p)
-          → (ps : List ℕ) (ms : List (Mark Checkpoint)) → ((i : ℕ) → ps ≡ i ∷ [] → (0 < w .prod .height) × (topOf (w .prod) (w .ids) ≡ i))
+          → (ps : List ℕ) (ms : List (Mark Checkpoint)) → ((i : ℕ) → ps ≡ i ∷ [] → (0 < w .producer .end .height) × (topOf (w .producer .end) (w .producer .ids) ≡ i))
           → All (CheckOk size (q .comps) (k .cu) (tot (O q))) ms → Like ret (with-shadows s t r) (with-marks ps ms)
       like-with s t r n vs ps ms x c =
           let f = view size (l .table) (w .ring) in
@@ -263,11 +278,11 @@ module _ (l : Layout) where
       like-same s t r n vs = like-with s t r n vs (q .promised) (q .marks) (k .promise) (k .checks)
 
       pub like-marks :
-          (ps : List ℕ) (ms : List (Mark Checkpoint)) → ((i : ℕ) → ps ≡ i ∷ [] → (0 < w .prod .height) × (topOf (w .prod) (w .ids) ≡ i))
+          (ps : List ℕ) (ms : List (Mark Checkpoint)) → ((i : ℕ) → ps ≡ i ∷ [] → (0 < w .producer .end .height) × (topOf (w .producer .end) (w .producer .ids) ≡ i))
           → All (CheckOk size (q .comps) (k .cu) (tot (O q))) ms → Like ret w (with-marks ps ms)
-      like-marks ps ms x c = like-with (w .prod .shadow) (w .cons .shadow) (w .ring) refl (λ p. refl) ps ms x c
+      like-marks ps ms x c = like-with (w .producer .end .shadow) (w .consumer .end .shadow) (w .ring) refl (λ p. refl) ps ms x c
 
       -- an answer that changes nothing: the queue after it is the same, but for what next_id promised
-      pub like-look : (a : Look Checkpoint) → ((i : ℕ) → looking q a ≡ i ∷ [] → (0 < w .prod .height) × (topOf (w .prod) (w .ids) ≡ i)) → Like ret w (next q (said.looked a))
+      pub like-unchanged : (a : Unchanged Checkpoint) → ((i : ℕ) → looking q a ≡ i ∷ [] → (0 < w .producer .end .height) × (topOf (w .producer .end) (w .producer .ids) ≡ i)) → Like ret w (next q (said.unchanged a))
       unfolding next
-      like-look a f = like-marks (looking q a) (q .marks) f (k .checks)
+      like-unchanged a f = like-marks (looking q a) (q .marks) f (k .checks)

@@ -12,11 +12,6 @@ pub mod Named
 pub mod Rollbacks
 pub mod Asides
 pub mod First
+pub mod Refused
+pub mod Valid
 pub mod Packed
-pub mod Astray
-pub mod Promises
-pub mod Counted
-pub mod Reset
-pub mod Told
-pub mod Notified
-pub mod Tied

@@ -1,21 +1,32 @@
 -- DEMAND 3 for the packed ring: every call of both ends matches the queue, so every history of them is first in, first out, with each
 -- completion meeting its own submission.
 -- Assumes nothing.
-use mathlib.Core.Path.{_≡_, sym, ap, subst}
+use Prim.Native.Nat.{ℕ}
+use mathlib.Core.Path.{_≡_, refl, sym, ap, _∙_, subst}
 use mathlib.Core.Bool.{false}
-use mathlib.Core.List.{[]}
+use mathlib.Core.List.{List, []}
+use lib.Dec.{T}
 use Rattle.layout.specs.declared.Layout.{Layout}
 use Rattle.layout.specs.Layout.{badLayout}
 use Rattle.consumer.specs.declared.Checkpoint.{Checkpoint}
+use Rattle.queue.specs.History.{Event, History}
 use Rattle.queue.specs.History as said
-use Rattle.queue.specs.Promise.{Fifo}
-use Rattle.queue.proofs.Model.{Queue, model, Undo, Grant}
-use Rattle.queue.proofs.Machine.{Matches, honest, matched, machine-fifo}
-use Rattle.packed.specs.Calls.{Own, Call, Typed, TypedCall, oneOf}
-use Rattle.packed.specs.Calls.{submitAvailable, submitAvailableWithNotify, submitOne, submitOneWithNotify, pollUsed, nextId, producerAsked, shouldNotifySince, turnUsed, enableUsedDesc, enableUsedForNext, pollAvailable, submitUsed, submitUsedWithNotify, peekAvailable, pollCheckpoint, rollbackPolls, consumerAsked, turnAvail, enableAvailDesc, enableAvailForNext, own, foreign}
-use Rattle.packed.specs.Machine.{World, producerValues, consumerValues, ownSays, ownLeaves, says, leaves, packed}
-use Rattle.packed.specs.Opening.{Opening, layoutOf, openedWorld, Run, historyIn, worldIn}
-use Rattle.packed.proofs.Invariant.{Match, Good, like-look}
+use Rattle.queue.specs.Promise.{Undoes, plain, forHanded, MayFollow}
+use Rattle.queue.specs.Machine.{numberOf, OfKind}
+use Rattle.queue.proofs.Model.{Queue, model, next, Undo, AllOk}
+use Rattle.queue.proofs.Trace.{undo-of, undo-all-of}
+use Rattle.queue.proofs.Machine.{Matches, matched, demanded}
+use Rattle.queue.proofs.Says.{says-number, says-kind}
+use Rattle.packed.specs.Calls.{ProducerCall, ConsumerCall, Own, Call, Given, TypedProducer, TypedConsumer, TypedCall, oneOf, requestOf}
+use Rattle.packed.specs.Calls.{submitAvailable, submitAvailableWithNotify, submitOne, submitOneWithNotify, pollUsed, nextId}
+use Rattle.packed.specs.Calls.{producerAsked, shouldNotifySince, turnUsed, enableUsedDesc, enableUsedForNext, producerReset}
+use Rattle.packed.specs.Calls.{pollAvailable, submitUsed, submitUsedWithNotify, peekAvailable, pollCheckpoint, rollbackPolls}
+use Rattle.packed.specs.Calls.{consumerAsked, turnAvail, enableAvailDesc, enableAvailForNext, consumerReset}
+use Rattle.packed.specs.Calls.{byProducer, byConsumer, own, foreign}
+use Rattle.packed.specs.Machine.{World, Lendings, checkpointIn, producerValues, consumerValues, packed, fair, callSays, leaves, givenIn}
+use Rattle.packed.specs.Machine.{ownAnswer, ownEntry, ownExit, foreignNumber, callEntry, callExit, producerDoes, consumerDoes}
+use Rattle.packed.specs.Opening.{Opening, openedWorld, machine, rules, Run, historyIn, worldIn, Demand}
+use Rattle.packed.proofs.Invariant.{Match, Good, GoodAfter, like-unchanged}
 use Rattle.packed.proofs.Polls.{poll-good, peek-good}
 use Rattle.packed.proofs.Stack.{next-good}
 use Rattle.packed.proofs.Reclaims.{reclaim-good}
@@ -23,63 +34,112 @@ use Rattle.packed.proofs.Submits as submits
 use Rattle.packed.proofs.Completes as completes
 use Rattle.packed.proofs.Rollbacks.{mark-good, roll-good}
 use Rattle.packed.proofs.Asides.{producer-asked, consumer-asked, since-good, turn-used-good, arm-used-good, turn-avail-good, arm-avail-good}
+use Rattle.packed.proofs.Asides.{producer-reset-goes, consumer-reset-goes}
 use Rattle.packed.proofs.First.{laid-out, first-like}
+use Rattle.packed.proofs.Refused.{own-kept, foreign-kept, foreign-leaves, not-success}
+use Rattle.packed.proofs.Valid.{own-valid}
 
 module _ (l : Layout) (good : badLayout l ≡ false) where
-  own-good : (w : World) (q : Queue Checkpoint) (c : Own) → Typed c → Match l w q → Grant Undo q (ownSays w c) → Good l q (ownSays w c) (ownLeaves w c)
-  unfolding ownSays ownLeaves
-  own-good w q (submitAvailable c) t m g = submits.submit-good l good (m .0) w q (m .1) c t
-  own-good w q (submitAvailableWithNotify c) t m g = submits.told-good l good (m .0) w q (m .1) c t
-  own-good w q (submitOne a n b) t m g = submits.submit-good l good (m .0) w q (m .1) (oneOf a n b) t
-  own-good w q (submitOneWithNotify a n b) t m g = submits.told-good l good (m .0) w q (m .1) (oneOf a n b) t
-  own-good w q pollUsed t m g = reclaim-good l good (m .0) w q (m .1)
-  own-good w q nextId t m g = next-good l good (m .0) w q (m .1)
-  own-good w q (producerAsked x) t m g = producer-asked l good (m .0) w q (m .1) (producerValues x (w .prod))
-  own-good w q (shouldNotifySince c) t m g = since-good l good (m .0) w q (m .1) c
-  own-good w q (turnUsed f) t m g = turn-used-good l good (m .0) w q (m .1) f
-  own-good w q (enableUsedDesc o b) t m g = arm-used-good l good (m .0) w q (m .1) o b
-  own-good w q enableUsedForNext t m g = arm-used-good l good (m .0) w q (m .1) (w .prod .used .head) (w .prod .used .wrap)
-  own-good w q (pollAvailable a b) t m g = poll-good l good (m .0) w q (m .1) a b
-  own-good w q (submitUsed i n) t m g = completes.complete-good l good (m .0) w q (m .1) i n (t .0) (t .1)
-  own-good w q (submitUsedWithNotify i n) t m g = completes.told-good l good (m .0) w q (m .1) i n (t .0) (t .1)
-  own-good w q peekAvailable t m g = peek-good l good (m .0) w q (m .1)
-  own-good w q pollCheckpoint t m g = mark-good l good (m .0) w q (m .1)
-  own-good w q (rollbackPolls c js) t m g = roll-good l good (m .0) w q (m .1) c js (λ e. subst (Grant Undo q) (sym e) g)
-  own-good w q (consumerAsked x) t m g = consumer-asked l good (m .0) w q (m .1) (consumerValues x (w .cons))
-  own-good w q (turnAvail f) t m g = turn-avail-good l good (m .0) w q (m .1) f
-  own-good w q (enableAvailDesc o b) t m g = arm-avail-good l good (m .0) w q (m .1) o b
-  own-good w q enableAvailForNext t m g = arm-avail-good l good (m .0) w q (m .1) (w .cons .avail .head) (w .cons .avail .wrap)
+  abbrev size : ℕ
+  size = l .size
 
-  call-good : (w : World) (q : Queue Checkpoint) (c : Call) → TypedCall c → Match l w q → Grant Undo q (says w c) → Good l q (says w c) (leaves w c)
-  unfolding says leaves
-  call-good w q (own c) t m g = own-good w q c t m g
-  call-good w q (foreign f) t m g = (tt, (m .0, like-look l good (m .0) w q (m .1) (said.astray _) (m .1 .promise)))
+  -- what is owed of a call that is fair, in a world that is like the queue
+  producer-good :
+      (w : World) (q : Queue Checkpoint) (c : ProducerCall) → TypedProducer c → Match l w q → fair packed w (own (byProducer c))
+      → Good l q (callSays packed size w (own (byProducer c))) (leaves packed w (own (byProducer c)))
+  unfolding callSays leaves producerDoes
+  producer-good w q (submitAvailable c) t m f = submits.submit-good l good (m .0) w q (m .1) c t
+  producer-good w q (submitAvailableWithNotify c) t m f = submits.told-good l good (m .0) w q (m .1) c t
+  producer-good w q (submitOne a n b) t m f = submits.submit-good l good (m .0) w q (m .1) (oneOf a n b) t
+  producer-good w q (submitOneWithNotify a n b) t m f = submits.told-good l good (m .0) w q (m .1) (oneOf a n b) t
+  producer-good w q pollUsed t m f = reclaim-good l good (m .0) w q (m .1)
+  producer-good w q nextId t m f = next-good l good (m .0) w q (m .1)
+  producer-good w q (producerAsked x) t m f = producer-asked l good (m .0) w q (m .1) (producerValues x (w .producer .end))
+  producer-good w q (shouldNotifySince c) t m f = since-good l good (m .0) w q (m .1) c
+  producer-good w q (turnUsed x) t m f = turn-used-good l good (m .0) w q (m .1) x
+  producer-good w q (enableUsedDesc o b) t m f = arm-used-good l good (m .0) w q (m .1) o b
+  producer-good w q enableUsedForNext t m f = arm-used-good l good (m .0) w q (m .1) (w .producer .end .used .head) (w .producer .end .used .wrap)
+  producer-good w q producerReset t m f = absurd (f (producer-reset-goes l good (m .0) w q (m .1)))
+
+  module _ (h : History Checkpoint) (ok : AllOk (plain size) h) where
+    -- after any history that the queue allows
+    after-any : (e : Event Checkpoint) (w : World) → Good l (model h) e w → GoodAfter l h (model h) e w
+    after-any e w g = (g .0 h, g .1)
+
+    consumer-good :
+        (w : World) (c : ConsumerCall) → TypedConsumer c → Match l w (model h) → fair packed w (own (byConsumer c))
+        → MayFollow (plain size) h (callSays packed size w (own (byConsumer c)))
+        → GoodAfter l h (model h) (callSays packed size w (own (byConsumer c))) (leaves packed w (own (byConsumer c)))
+    unfolding callSays leaves consumerDoes
+    consumer-good w (pollAvailable a b) t m f p = after-any _ _ (poll-good l good (m .0) w (model h) (m .1) a b)
+    consumer-good w (submitUsed i n) t m f p = after-any _ _ (completes.complete-good l good (m .0) w (model h) (m .1) i n (t .0) (t .1))
+    consumer-good w (submitUsedWithNotify i n) t m f p = after-any _ _ (completes.told-good l good (m .0) w (model h) (m .1) i n (t .0) (t .1))
+    consumer-good w peekAvailable t m f p = after-any _ _ (peek-good l good (m .0) w (model h) (m .1))
+    consumer-good w pollCheckpoint t m f p = after-any _ _ (mark-good l good (m .0) w (model h) (m .1))
+    consumer-good w (rollbackPolls c js) t m f p =
+        roll-good l good (m .0) w (model h) (m .1) c js h (undo-all-of (plain size) h ok c js)
+        (λ e. undo-of (plain size) h ok c js (subst (MayFollow (plain size) h) (sym e) p))
+    consumer-good w (consumerAsked x) t m f p = after-any _ _ (consumer-asked l good (m .0) w (model h) (m .1) (consumerValues x (w .consumer .end)))
+    consumer-good w (turnAvail x) t m f p = after-any _ _ (turn-avail-good l good (m .0) w (model h) (m .1) x)
+    consumer-good w (enableAvailDesc o b) t m f p = after-any _ _ (arm-avail-good l good (m .0) w (model h) (m .1) o b)
+    consumer-good w enableAvailForNext t m f p =
+        after-any _ _ (arm-avail-good l good (m .0) w (model h) (m .1) (w .consumer .end .avail .head) (w .consumer .end .avail .wrap))
+    consumer-good w consumerReset t m f p = absurd (f (consumer-reset-goes l good (m .0) w (model h) (m .1)))
+
+    call-good :
+        (w : World) (c : Call) → TypedCall c → Match l w (model h) → fair packed w c → MayFollow (plain size) h (callSays packed size w c)
+        → GoodAfter l h (model h) (callSays packed size w c) (leaves packed w c)
+    unfolding callSays
+    call-good w (own (byProducer c)) t m f p = after-any _ _ (producer-good w (model h) c t m f)
+    call-good w (own (byConsumer c)) t m f p = consumer-good w c t m f p
+    call-good w (foreign x) t m f p =
+        let n = foreignNumber packed (givenIn w x) x in
+        let e : Event Checkpoint = said.unchanged (said.foreignAnswered n) in
+        (tt, subst (λ (v : World). Match l v (next (model h) e)) (sym (foreign-leaves w x f))
+        (m .0, like-unchanged l good (m .0) w (model h) (m .1) (said.foreignAnswered n) (m .1 .promise)))
+
+  -- every call is answered in its own kind
+  call-kind : (w : World) (q : Queue Checkpoint) (c : Call) → Match l w q → OfKind (requestOf size c) (callSays packed size w c)
+  unfolding callSays
+  call-kind w q (own c) m =
+      says-kind checkpointIn (requestOf size (own c)) (ownAnswer packed w c) (ownExit packed w c .addrs) (ownExit packed w c .lens) (own-valid l good (m .0) w q (m .1) c)
+  call-kind w q (foreign x) m = refl
+
+-- a call that is refused for what it was handed leaves all that it was lent
+call-kept : (size : ℕ) (w : World) (c : Call) → T (forHanded (numberOf (callSays packed size w c))) → callExit packed w c ≡ callEntry packed w c
+unfolding callSays
+call-kept size w (own c) t =
+    own-kept w c (not-success _ (subst (λ (n : ℕ). T (forHanded n))
+    (says-number checkpointIn (requestOf size (own c)) (ownAnswer packed w c) (ownExit packed w c .addrs) (ownExit packed w c .lens)) t))
+call-kept size w (foreign x) t = foreign-kept (givenIn w x) x t
 
 -- ---- the promise
 
-module _ (o : Opening) where
-  matches : Matches packed (openedWorld o) (o .size) honest
-  matches =
-      record {
-        Like = Match (layoutOf o);
-        first = ([], first-like o);
-        step = λ w q c m g. call-good (layoutOf o) (laid-out o) w q (c .call) (c .typed) m g;
-      }
+matches : (o : Opening packed) → Matches (machine packed o) (rules packed o) (openedWorld packed o)
+matches o =
+    record {
+      Like = Match (o .geometry);
+      first = ([], first-like o);
+      step = λ h ok w c m f p. call-good (o .geometry) (laid-out o) h ok w (c .call) (c .typed) m f p;
+      kind = λ w q c m f. call-kind (o .geometry) (laid-out o) w q (c .call) m;
+      keeps = λ w c f t. call-kept (o .geometry .size) w (c .call) t;
+    }
 
 -- "Take two fresh ends over one zeroed ring, any mix of their calls, no reset, no other writer, each end given back its own last record and
 -- tables, and each rollback using a checkpoint that its end took and undoing every poll since, with no completion between. Then ..": what
--- `Fifo` says (queue/specs/Promise.antt), of every run
-pub demand-3 : (r : Run) → Fifo (r .opening .size) (historyIn r)
-demand-3 r = machine-fifo packed (openedWorld (r .opening)) (r .opening .size) honest (matches (r .opening)) (r .calls) (r .premise)
+-- `Demand3` says (queue/specs/Demand.antt), of every run
+pub demand-3 : Demand packed
+demand-3 r = demanded (machine packed (r .opening)) (rules packed (r .opening)) (openedWorld packed (r .opening)) (matches (r .opening)) (r .calls) (r .premise)
 
 -- the invariant, at any point of a run
-pub like-queue : (r : Run) → Match (layoutOf (r .opening)) (worldIn r) (model (historyIn r))
+pub like-queue : (r : Run packed) → Match (r .opening .geometry) (worldIn packed r) (model (historyIn packed r))
 unfolding matches
-like-queue r = matched packed (openedWorld (r .opening)) (r .opening .size) honest (matches (r .opening)) (r .calls) (r .premise) .1
+like-queue r = matched (machine packed (r .opening)) (rules packed (r .opening)) (openedWorld packed (r .opening)) (matches (r .opening)) (r .calls) (r .premise) .1
 
--- both records keep the size that was opened: so "outputs of at least ring-size entries" and "on the ring", as a refusal's event has them,
--- are of that size
-pub size-stays : (r : Run) → (worldIn r .prod .layout .size ≡ r .opening .size) × (worldIn r .cons .layout .size ≡ r .opening .size)
+-- both records keep the size that was opened
+pub size-stays :
+    (r : Run packed)
+    → (worldIn packed r .producer .end .layout .size ≡ r .opening .geometry .size) × (worldIn packed r .consumer .end .layout .size ≡ r .opening .geometry .size)
 size-stays r =
     let m = like-queue r .1 in
     (ap (λ (x : Layout). x .size) (m .p-layout), ap (λ (x : Layout). x .size) (m .c-layout))

@@ -3,6 +3,7 @@
 use Prim.Native.Nat.{ℕ, suc, _+_, _<_}
 use mathlib.Core.Path.{_≡_, refl, sym, ap, ap₂, _∙_, subst}
 use mathlib.Core.Bool.{Bool, true, false, not, Bool·beq}
+use mathlib.Core.Logic.{inr}
 use mathlib.Core.List.{List, [], _∷_}
 use native.Mathlib.Omega.{arith}
 use native.Mathlib.Numerals.{add-one}
@@ -27,60 +28,61 @@ use Rattle.consumer.specs.declared.Checkpoint.{Checkpoint}
 use Rattle.queue.specs.History.{withoutItem}
 use Rattle.queue.specs.History as said
 use Rattle.queue.proofs.Model.{Queue, next, tail}
-use Rattle.packed.specs.Machine.{World, saysReclaimed, afterMade}
-use Rattle.packed.proofs.Answers.{either-refused}
+use Rattle.packed.specs.Calls.{asks}
+use Rattle.packed.specs.Machine.{World, afterProducer}
+use Rattle.packed.proofs.Answers.{saysReclaimed, afterMade, read-refused}
 use Rattle.packed.proofs.Position.{round, view, pos-add}
 use Rattle.packed.proofs.Counts.{Used, ofItems, ofUsed, dones, hit, occS, occ, slots, tot, hit-same, slots-none, one-le, one-low, at-clear, OutItem, item-out, occ-push}
-use Rattle.packed.proofs.Invariant.{O, F, W, Like, Good, good-by, p-size, p-sound, p-lent, edge, like-look}
+use Rattle.packed.proofs.Invariant.{O, F, W, Like, Good, good-by, p-size, p-sound, p-lent, edge, like-unchanged}
 
 module _ (l : Layout) (laid-out : badLayout l ≡ false) where
   abbrev size : ℕ
   size = l .size
 
   abbrev reclaims : World → Outcome
-  reclaims w = pollOf (w .prod) (w .ring) (w .ids) (w .counts)
+  reclaims w = pollOf (w .producer .end) (w .ring) (w .producer .ids) (w .producer .counts)
 
   module _ (ret : List Used) (w : World) (q : Queue Checkpoint) (k : Like l ret w q) where
     abbrev found : Descriptor
-    found = slotOf (w .prod .layout .table) (w .prod .used) (w .ring)
+    found = slotOf (w .producer .end .layout .table) (w .producer .end .used) (w .ring)
 
     found-view : found ≡ view size (l .table) (w .ring) (k .pu)
     found-view = ap₂ (λ (m : Layout) (c : RingCursor). slotOf (m .table) c (w .ring)) (k .p-layout) (k .p-used)
 
-    wrap-is : w .prod .used .wrap ≡ round size (k .pu)
+    wrap-is : w .producer .end .used .wrap ≡ round size (k .pu)
     wrap-is = ap (λ (c : RingCursor). c .wrap) (k .p-used)
 
     -- a flag of the slot found, against the round
-    at-found : (b : ℕ) → has (view size (l .table) (w .ring) (k .pu) .flags) b ≡ not (round size (k .pu)) → has (found .flags) b ≡ not (w .prod .used .wrap)
+    at-found : (b : ℕ) → has (view size (l .table) (w .ring) (k .pu) .flags) b ≡ not (round size (k .pu)) → has (found .flags) b ≡ not (w .producer .end .used .wrap)
     at-found b h = ap (λ (d : Descriptor). has (d .flags) b) found-view ∙ h ∙ ap not (sym wrap-is)
 
-    none-used : ret ≡ [] → isUsed (found .flags) (w .prod .used .wrap) ≡ false
+    none-used : ret ≡ [] → isUsed (found .flags) (w .producer .end .used .wrap) ≡ false
     none-used e =
         let z : tot (ofUsed ret) ≡ 0 = ap (λ (us : List Used). tot (ofUsed us)) e in
         by-lt (k .pu) (k .pa)
-        (λ h. not-used-yet (found .flags) (w .prod .used .wrap) (at-found USED (k .unused (k .pu) (omega (arith, k .cu-is, z)) h)))
+        (λ h. not-used-yet (found .flags) (w .producer .end .used .wrap) (at-found USED (k .unused (k .pu) (omega (arith, k .cu-is, z)) h)))
         (λ h.
         let p : k .pa ≡ k .pu = omega (arith, k .cu-is, k .fa-is, k .ca-is, k .pa-is) in
-        not-used (found .flags) (w .prod .used .wrap)
+        not-used (found .flags) (w .producer .end .used .wrap)
         (at-found AVAIL (subst (λ (n : ℕ). has (view size (l .table) (w .ring) n .flags) AVAIL ≡ not (round size n)) p (edge l laid-out ret w q k))))
 
     reclaim-blocked : ret ≡ [] → Good l q (saysReclaimed (reclaims w .answer)) (afterMade w (reclaims w))
     reclaim-blocked e =
-        let n = poll-blocks (w .prod) (length (w .ring)) found (length (w .ids)) (w .counts) (p-sound l laid-out ret w q k) (p-lent l laid-out ret w q k) (none-used e) in
-        let t : reclaims w ≡ outcome (refused 3) (w .prod) (w .ring) (w .ids) (w .counts) =
-        poll-refused (w .prod) (w .ring) (w .ids) (w .counts) (λ z. omega (arith, n, z))
-        ∙ ap (λ (m : ℕ). outcome (refused m) (w .prod) (w .ring) (w .ids) (w .counts)) n in
-        good-by l q _ (said.looked (said.refused said.reclaim true 3)) _ w
-        (either-refused (reclaims w .answer) 3 _ said.reclaim true (ap (λ (o : Outcome). o .answer) t) (omega arith))
+        let n = poll-blocks (w .producer .end) (length (w .ring)) found (length (w .producer .ids)) (w .producer .counts) (p-sound l laid-out ret w q k) (p-lent l laid-out ret w q k) (none-used e) in
+        let t : reclaims w ≡ outcome (refused 3) (w .producer .end) (w .ring) (w .producer .ids) (w .producer .counts) =
+        poll-refused (w .producer .end) (w .ring) (w .producer .ids) (w .producer .counts) (λ z. omega (arith, n, z))
+        ∙ ap (λ (m : ℕ). outcome (refused m) (w .producer .end) (w .ring) (w .producer .ids) (w .producer .counts)) n in
+        good-by l q _ (said.unchanged (said.refused said.reclaim true 3)) _ w
+        (read-refused (reclaims w .answer) 3 (asks said.reclaim true) (ap (λ (o : Outcome). o .answer) t) (omega arith))
         (ap (afterMade w) t)
-        ((refl, k .dones-are ∙ ap dones e), (ret, like-look l laid-out ret w q k (said.refused said.reclaim true 3) (k .promise)))
+        (λ h. (λ z. z, inr (refl, (refl, k .dones-are ∙ ap dones e))), (ret, like-unchanged l laid-out ret w q k (said.refused said.reclaim true 3) (k .promise)))
 
   module _ (u : Used) (us : List Used) (w : World) (q : Queue Checkpoint) (k : Like l (u ∷ us) w q) where
     abbrev id : ℕ
     id = u .done .id
 
     abbrev seen : Descriptor
-    seen = slotOf (w .prod .layout .table) (w .prod .used) (w .ring)
+    seen = slotOf (w .producer .end .layout .table) (w .producer .end .used) (w .ring)
 
     seen-is : seen ≡ markUsed (descriptor 0 (u .done .len) id 0) (round size (k .pu))
     seen-is = found-view (u ∷ us) w q k ∙ k .returned .0
@@ -91,7 +93,7 @@ module _ (l : Layout) (laid-out : badLayout l ≡ false) where
     len-is : seen .len ≡ u .done .len
     len-is = ap (λ (d : Descriptor). d .len) seen-is ∙ used-fields (u .done .len) id (round size (k .pu)) .1
 
-    is-used : isUsed (seen .flags) (w .prod .used .wrap) ≡ true
+    is-used : isUsed (seen .flags) (w .producer .end .used .wrap) ≡ true
     is-used =
         ap₂ (λ (d : Descriptor) (b : Bool). isUsed (d .flags) b) seen-is (wrap-is (u ∷ us) w q k)
         ∙ used-marked (descriptor 0 (u .done .len) id 0) (round size (k .pu)) (round size (k .pu)) ∙ same (round size (k .pu))
@@ -112,7 +114,7 @@ module _ (l : Layout) (laid-out : badLayout l ≡ false) where
           slots-none id (ofUsed us) (omega (arith, k .once id, h, one-le size id)),
         )
 
-    count : getD (w .counts) id 0 ≡ u .n
+    count : getD (w .producer .counts) id 0 ≡ u .n
     count = let a = alone in omega (arith, k .p-nums id low, hit-same id (u .n), a .0, a .1, a .2, a .3)
 
     -- its chain leaves the chains that are out
@@ -128,35 +130,34 @@ module _ (l : Layout) (laid-out : badLayout l ≡ false) where
 
     abbrev reclaim-world : World
     reclaim-world =
-        record {
-          prod = freedOf (w .prod) (u .n);
-          ids = set (w .ids) (w .prod .height) id;
-          counts = set (w .counts) id 0;
-          cons = w .cons;
-          heldCounts = w .heldCounts;
-          ring = w .ring;
-        }
+        afterProducer w
+        (record {
+          end = freedOf (w .producer .end) (u .n);
+          ids = set (w .producer .ids) (w .producer .end .height) id;
+          counts = set (w .producer .counts) id 0;
+        })
+        (w .ring)
 
     is-reclaimed :
-        reclaims w ≡ outcome (done (id ∷ u .done .len ∷ [])) (freedOf (w .prod) (u .n)) (w .ring) (set (w .ids) (w .prod .height) id) (set (w .counts) id 0)
+        reclaims w ≡ outcome (done (id ∷ u .done .len ∷ [])) (freedOf (w .producer .end) (u .n)) (w .ring) (set (w .producer .ids) (w .producer .end .height) id) (set (w .producer .counts) id 0)
     is-reclaimed =
         let s = p-size l laid-out (u ∷ us) w q k in
-        let c : getD (w .counts) (seen .id) 0 ≡ u .n = ap (λ (i : ℕ). getD (w .counts) i 0) id-is ∙ count in
-        poll-done (w .prod) (w .ring) (w .ids) (w .counts)
-        (poll-goes (w .prod) (length (w .ring)) seen (length (w .ids)) (w .counts) (p-sound l laid-out (u ∷ us) w q k) (p-lent l laid-out (u ∷ us) w q k)
+        let c : getD (w .producer .counts) (seen .id) 0 ≡ u .n = ap (λ (i : ℕ). getD (w .producer .counts) i 0) id-is ∙ count in
+        poll-done (w .producer .end) (w .ring) (w .producer .ids) (w .producer .counts)
+        (poll-goes (w .producer .end) (length (w .ring)) seen (length (w .producer .ids)) (w .producer .counts) (p-sound l laid-out (u ∷ us) w q k) (p-lent l laid-out (u ∷ us) w q k)
         is-used (omega (arith, s, low, id-is)) (omega (arith, c, k .r-pos .0))
         (omega (arith, s, c, k .room, k .pa-is, k .ca-is, k .fa-is, k .cu-is))
         (omega (arith, s, k .heights, left .len-is)))
-        ∙ polled-is (w .prod) seen (w .ring) (w .ids) (w .counts)
-        ∙ (λ i. outcome (done (id-is i ∷ len-is i ∷ [])) (freedOf (w .prod) (c i)) (w .ring) (set (w .ids) (w .prod .height) (id-is i)) (set (w .counts) (id-is i) 0))
+        ∙ polled-is (w .producer .end) seen (w .ring) (w .producer .ids) (w .producer .counts)
+        ∙ (λ i. outcome (done (id-is i ∷ len-is i ∷ [])) (freedOf (w .producer .end) (c i)) (w .ring) (set (w .producer .ids) (w .producer .end .height) (id-is i)) (set (w .producer .counts) (id-is i) 0))
 
     reclaim-like : Like l us reclaim-world (next q (said.reclaimed (u .done)))
     unfolding next
     reclaim-like =
-        let g = freed-is (w .prod) (u .n) in
+        let g = freed-is (w .producer .end) (u .n) in
         let s = p-size l laid-out (u ∷ us) w q k in
-        let h : freedOf (w .prod) (u .n) .height ≡ suc (w .prod .height) = ap (λ (p : RingProducer). p .height) g ∙ add-one (w .prod .height) in
-        let f : freedOf (w .prod) (u .n) .free ≡ w .prod .free + u .n = ap (λ (p : RingProducer). p .free) g in
+        let h : freedOf (w .producer .end) (u .n) .height ≡ suc (w .producer .end .height) = ap (λ (p : RingProducer). p .height) g ∙ add-one (w .producer .end .height) in
+        let f : freedOf (w .producer .end) (u .n) .free ≡ w .producer .end .free + u .n = ap (λ (p : RingProducer). p .free) g in
         let n = left-n in
         record {
           pu = k .pu + u .n;
@@ -178,8 +179,8 @@ module _ (l : Layout) (laid-out : badLayout l ≡ false) where
           p-avail = ap (λ (p : RingProducer). p .avail) g ∙ k .p-avail;
           inflight = k .inflight;
           whole = k .whole;
-          ids-whole = omega (arith, k .ids-whole, length-set (w .ids) (w .prod .height) id);
-          counts-whole = omega (arith, k .counts-whole, length-set (w .counts) id 0);
+          ids-whole = omega (arith, k .ids-whole, length-set (w .producer .ids) (w .producer .end .height) id);
+          counts-whole = omega (arith, k .counts-whole, length-set (w .producer .counts) id 0);
           held-whole = k .held-whole;
           spelled = k .spelled;
           returned = k .returned .1;
@@ -190,9 +191,9 @@ module _ (l : Layout) (laid-out : badLayout l ≡ false) where
           o-pos = k .o-pos;
           r-pos = k .r-pos .1;
           once = λ y.
-              ap (λ (m : ℕ). occS y (take m (set (w .ids) (w .prod .height) id)) + (occ y (W q) + (occ y (O q) + occ y (F q)) + occ y (ofUsed us))) h
-              ∙ omega (arith, k .once y, occ-push y (w .ids) (w .prod .height) id (omega (arith, k .heights, left .len-is, k .ids-whole)));
-          p-nums = λ y b. omega (arith, k .p-nums y b, at-clear (w .counts) id y (omega (arith, low, k .counts-whole)), ap (hit id y) count);
+              ap (λ (m : ℕ). occS y (take m (set (w .producer .ids) (w .producer .end .height) id)) + (occ y (W q) + (occ y (O q) + occ y (F q)) + occ y (ofUsed us))) h
+              ∙ omega (arith, k .once y, occ-push y (w .producer .ids) (w .producer .end .height) id (omega (arith, k .heights, left .len-is, k .ids-whole)));
+          p-nums = λ y b. omega (arith, k .p-nums y b, at-clear (w .producer .counts) id y (omega (arith, low, k .counts-whole)), ap (hit id y) count);
           c-nums = k .c-nums;
           heights = omega (arith, k .heights, h, left .len-is);
           out-pos = left .pos-is (k .out-pos);
@@ -210,7 +211,7 @@ module _ (l : Layout) (laid-out : badLayout l ≡ false) where
     reclaim-gives =
         good-by l q _ (said.reclaimed (u .done)) _ reclaim-world
         (ap (λ (o : Outcome). saysReclaimed (o .answer)) is-reclaimed) (ap (afterMade w) is-reclaimed)
-        ((dones us, k .dones-are), (us, reclaim-like))
+        (λ h. (dones us, k .dones-are), (us, reclaim-like))
 
   -- POLL USED
   pub reclaim-good : (ret : List Used) (w : World) (q : Queue Checkpoint) → Like l ret w q → Good l q (saysReclaimed (reclaims w .answer)) (afterMade w (reclaims w))

@@ -2,6 +2,7 @@
 -- Assumes nothing.
 use Prim.Native.Nat.{ℕ, _+_, _≤_, _<_}
 use mathlib.Core.Path.{_≡_, refl, sym, ap, ap₂, _∙_, subst}
+use mathlib.Core.Logic.{inl, inr}
 use mathlib.Core.Bool.{Bool, true, false, _&&_, _||_}
 use mathlib.Core.List.{List, [], _∷_, _++_, append-assoc}
 use native.Mathlib.Omega.{arith}
@@ -26,19 +27,21 @@ use Rattle.consumer.specs.Outcome.{Rolled, rolled}
 use Rattle.consumer.specs.Rollback.{checkpointOf, checkpointValues, staleOf, rollbackOf}
 use Rattle.consumer.proofs.Rollback.{Current, current, rollback-stopped, rollback-refused, rollback-done}
 use Rattle.consumer.proofs.Goes.{handed-bad, handed-goes, not-stale, back-is}
-use Rattle.queue.specs.History.{Item, Poll, slotsOf, items, ids, upto, after, times}
+use Rattle.queue.specs.History.{Item, Poll, History, slotsOf, items, ids, upto, after, times}
+use Rattle.queue.specs.Promise.{UndoesIntact}
 use Rattle.queue.specs.History as said
 use Rattle.queue.specs.Sentences.{All}
 use Rattle.queue.proofs.Listing.{all-append, all-left, all-right, all-of, items-append, upto-after, but-last-upto, drop-after}
-use Rattle.queue.proofs.Model.{Queue, markOf, next, Undo}
-use Rattle.packed.specs.Machine.{World, saysRolled, saysMarked, afterRolled}
-use Rattle.packed.proofs.Answers.{either-refused, and-true}
+use Rattle.queue.proofs.Model.{Queue, markOf, next, Undo, UndoIntact}
+use Rattle.packed.specs.Calls.{asks, validCheckpoint}
+use Rattle.packed.specs.Machine.{World, afterConsumer}
+use Rattle.packed.proofs.Answers.{saysRolled, saysMarked, afterRolled, read-refused, and-true}
 use Rattle.packed.proofs.Position.{pos, view, pos-add, pos-low}
 use Rattle.packed.proofs.Counts.{Used, ofItems, occ, slots, tot, Pos, one-le, one-low, hit-same, slots-none, both-tot, both-occ, both-slots, items-tot, items-occ, items-slots}
 use Rattle.packed.proofs.Spells.{Spells}
 use Rattle.packed.proofs.Named.{occ-times, none-bad, same-total, own-slots, total-polls, cleared-at}
 use Rattle.packed.proofs.Completes.{occ-slots}
-use Rattle.packed.proofs.Invariant.{FineItem, fine-pos, O, F, CheckOk, Like, Good, good-by, big, c-size, c-sound, like-marks, like-look}
+use Rattle.packed.proofs.Invariant.{FineItem, fine-pos, O, F, CheckOk, Like, Good, GoodAfter, good-by, good-after-by, big, c-size, c-sound, like-marks, like-unchanged}
 
 module _ (l : Layout) (laid-out : badLayout l ≡ false) where
   abbrev size : ℕ
@@ -58,11 +61,11 @@ module _ (l : Layout) (laid-out : badLayout l ≡ false) where
         bit-back true = refl
         bit-back false = refl
 
-    mark-like : Like l ret w (next q (said.marked (checkpointOf (w .cons))))
+    mark-like : Like l ret w (next q (said.marked (checkpointOf (w .consumer .end))))
     unfolding next
     mark-like =
-        like-marks l laid-out ret w q k (q .promised) (q .marks ++ (markOf q (checkpointOf (w .cons)) ∷ [])) (k .promise)
-        (all-append (CheckOk size (q .comps) (k .cu) (tot (O q))) (q .marks) (markOf q (checkpointOf (w .cons)) ∷ []) (k .checks) (
+        like-marks l laid-out ret w q k (q .promised) (q .marks ++ (markOf q (checkpointOf (w .consumer .end)) ∷ [])) (k .promise)
+        (all-append (CheckOk size (q .comps) (k .cu) (tot (O q))) (q .marks) (markOf q (checkpointOf (w .consumer .end)) ∷ []) (k .checks) (
           (
             le-refl (q .comps),
             λ e. (k .c-used, (k .inflight, k .c-avail ∙ ap (pos size) (omega (arith, k .ca-is, k .fa-is, k .inflight)))),
@@ -71,27 +74,32 @@ module _ (l : Layout) (laid-out : badLayout l ≡ false) where
         ))
 
     -- CHECKPOINT
-    pub mark-good : Good l q (saysMarked (askOf (badRecord (w .cons)) (checkpointValues (checkpointOf (w .cons))))) w
+    pub mark-good : Good l q (saysMarked (askOf (badRecord (w .consumer .end)) (checkpointValues (checkpointOf (w .consumer .end))))) w
     mark-good =
-        good-by l q _ (said.marked (checkpointOf (w .cons))) w w
-        (ap saysMarked (ask-good (badRecord (w .cons)) (checkpointValues (checkpointOf (w .cons))) (c-sound l laid-out ret w q k)) ∙ checkpoint-read (checkpointOf (w .cons)))
-        refl (tt, (ret, mark-like))
+        good-by l q _ (said.marked (checkpointOf (w .consumer .end))) w w
+        (ap saysMarked (ask-good (badRecord (w .consumer .end)) (checkpointValues (checkpointOf (w .consumer .end))) (c-sound l laid-out ret w q k)) ∙ checkpoint-read (checkpointOf (w .consumer .end)))
+        refl (λ h. tt, (ret, mark-like))
 
     -- ---- rollbacks
     module _ (cp : Checkpoint) (js : List ℕ) where
       abbrev rolls : Rolled
-      rolls = rollbackOf (w .cons) (w .heldCounts) cp js
+      rolls = rollbackOf (w .consumer .end) (w .consumer .counts) cp js
 
       abbrev on-ring : Bool
-      on-ring = ltb (cp .avail .head) (w .cons .layout .size) && ltb (cp .used .head) (w .cons .layout .size)
+      on-ring = validCheckpoint (w .consumer .end .layout .size) cp
+
+      -- the record's size is the one that was opened
+      valid-is : validCheckpoint size cp ≡ on-ring
+      valid-is = ap (λ (m : ℕ). validCheckpoint m cp) (sym (c-size l laid-out ret w q k))
 
       roll-no :
-          (m : ℕ) (g : Bool) → 0 < m → rolls ≡ rolled (refused m) (w .cons) (w .heldCounts) → on-ring ≡ g
-          → Good l q (said.looked (said.refused (said.rollback cp js) g m)) w → Good l q (saysRolled (w .cons .layout .size) cp js (rolls .answer)) (afterRolled w rolls)
-      roll-no m g z t b good =
-          good-by l q _ (said.looked (said.refused (said.rollback cp js) g m)) _ w
-          (either-refused (rolls .answer) m _ (said.rollback cp js) on-ring (ap (λ (o : Rolled). o .answer) t) z
-          ∙ ap (λ (y : Bool). said.looked (said.refused (said.rollback cp js) y m)) b)
+          (h : History Checkpoint) (m : ℕ) (g : Bool) → 0 < m → rolls ≡ rolled (refused m) (w .consumer .end) (w .consumer .counts) → on-ring ≡ g
+          → GoodAfter l h q (said.unchanged (said.refused (said.rollback cp js) g m)) w
+          → GoodAfter l h q (saysRolled size cp js (rolls .answer)) (afterRolled w rolls)
+      roll-no h m g z t b good =
+          good-after-by l h q _ (said.unchanged (said.refused (said.rollback cp js) g m)) _ w
+          (read-refused (rolls .answer) m (asks (said.rollback cp js) (validCheckpoint size cp)) (ap (λ (o : Rolled). o .answer) t) z
+          ∙ ap (λ (y : Bool). said.unchanged (said.refused (said.rollback cp js) y m)) (valid-is ∙ b))
           (ap (afterRolled w) t)
           good
 
@@ -131,18 +139,18 @@ module _ (l : Layout) (laid-out : badLayout l ≡ false) where
             (subst (All FineItem) (ap items (sym parts) ∙ items-append up back) (all-left FineItem (items (q .fresh)) (q .waiting) (k .fine))))
 
         -- each named ID is the ring's and has a count
-        named-ok : (y : ℕ) → 0 < times y js → (y < size) × (0 < getD (w .heldCounts) y 0)
+        named-ok : (y : ℕ) → 0 < times y js → (y < size) × (0 < getD (w .consumer .counts) y 0)
         named-ok y h =
             let o : 0 < occ y (ofItems (items back)) = omega (arith, h, back-times y) in
             let low : y < size = one-low size y (omega (arith, k .once y, occs y, o)) in
             (low, omega (arith, k .c-nums y low, slotss y, occ-slots y (ofItems (items back)) back-pos o))
 
-        none-bad-now : badIds size (w .heldCounts) js ≡ false
-        none-bad-now = none-bad size (w .heldCounts) js (λ y. omega (arith, back-times y, back-once y)) named-ok
+        none-bad-now : badIds size (w .consumer .counts) js ≡ false
+        none-bad-now = none-bad size (w .consumer .counts) js (λ y. omega (arith, back-times y, back-once y)) named-ok
 
         -- the sum is that of their chains' slots
         entries : (qs : List Poll) → All (λ (p : Poll). slots (p .item .id) (ofItems (items (q .old ++ up))) + slots (p .item .id) (ofItems (items back)) ≡ slotsOf (p .item .chain)) qs
-            → All (λ (p : Poll). 0 < occ (p .item .id) (ofItems (items back))) qs → All (λ (p : Poll). getD (w .heldCounts) (p .item .id) 0 ≡ slotsOf (p .item .chain)) qs
+            → All (λ (p : Poll). 0 < occ (p .item .id) (ofItems (items back))) qs → All (λ (p : Poll). getD (w .consumer .counts) (p .item .id) 0 ≡ slotsOf (p .item .chain)) qs
         entries [] s t = tt
         entries (p ∷ qs) s t =
             let low : p .item .id < size = one-low size (p .item .id) (omega (arith, k .once (p .item .id), occs (p .item .id), t .0)) in (
@@ -157,10 +165,10 @@ module _ (l : Layout) (laid-out : badLayout l ≡ false) where
           stand-in ps (λ y. omega (arith, h y)),
         )
 
-        total : totalOf (w .heldCounts) js ≡ tot (ofItems (items back))
+        total : totalOf (w .consumer .counts) js ≡ tot (ofItems (items back))
         total =
-            same-total (w .heldCounts) js (ids back) (u .names)
-            ∙ total-polls (w .heldCounts) back (entries back (own-slots (ofItems (items (q .old ++ up))) back back-once) (stand-in back (λ y. le-refl (occ y (ofItems (items back))))))
+            same-total (w .consumer .counts) js (ids back) (u .names)
+            ∙ total-polls (w .consumer .counts) back (entries back (own-slots (ofItems (items (q .old ++ up))) back back-once) (stand-in back (λ y. le-refl (occ y (ofItems (items back))))))
 
         check : (u .mark .value .used ≡ pos size (k .cu)) × ((u .mark .value .inflight ≡ tot (O q) + tot (ofItems (items (u .mark .stood)))) × (u .mark .value .avail ≡ pos size (k .cu + u .mark .value .inflight)))
         check = all-of (CheckOk size (q .comps) (k .cu) (tot (O q))) (u .mark) (q .marks) (u .taken) (k .checks) .1 (u .same-comps)
@@ -174,29 +182,29 @@ module _ (l : Layout) (laid-out : badLayout l ≡ false) where
             subst (λ (x : RingCursor). x .head < size) (sym (check .1 .1) ∙ ap (λ (x : Checkpoint). x .avail) v) (pos-low size (big l laid-out) (k .cu + u .mark .value .inflight)) in
             let d : cp .used .head < size =
             subst (λ (x : RingCursor). x .head < size) (sym (check .0) ∙ ap (λ (x : Checkpoint). x .used) v) (pos-low size (big l laid-out) (k .cu)) in
-            and-true (ltb (cp .avail .head) (w .cons .layout .size)) (ltb (cp .used .head) (w .cons .layout .size))
-            (lt-ltb (cp .avail .head) (w .cons .layout .size) (omega (arith, s, a))) (lt-ltb (cp .used .head) (w .cons .layout .size) (omega (arith, s, d)))
+            and-true (ltb (cp .avail .head) (w .consumer .end .layout .size)) (ltb (cp .used .head) (w .consumer .end .layout .size))
+            (lt-ltb (cp .avail .head) (w .consumer .end .layout .size) (omega (arith, s, a))) (lt-ltb (cp .used .head) (w .consumer .end .layout .size) (omega (arith, s, d)))
 
         -- where every poll that stood at the checkpoint stands, nothing is stale
-        stands-current : up ≡ u .mark .stood → staleOf (w .cons) cp (totalOf (w .heldCounts) js) ≡ false
+        stands-current : up ≡ u .mark .stood → staleOf (w .consumer .end) cp (totalOf (w .consumer .counts) js) ≡ false
         stands-current e =
             let c = check in
             let v = u .value in
-            let i : w .cons .inflight ≡ cp .inflight + totalOf (w .heldCounts) js =
+            let i : w .consumer .end .inflight ≡ cp .inflight + totalOf (w .consumer .counts) js =
             omega (arith, k .inflight, tots, total, c .1 .0, ap (λ (x : Checkpoint). x .inflight) v, ap (λ (ps : List Poll). tot (ofItems (items ps))) e) in
-            not-stale (w .cons) cp (totalOf (w .heldCounts) js)
+            not-stale (w .consumer .end) cp (totalOf (w .consumer .counts) js)
             (k .c-used ∙ sym (c .0) ∙ ap (λ (x : Checkpoint). x .used) v)
             i
-            (k .c-avail ∙ ap (pos size) (omega (arith, k .ca-is, k .fa-is, k .inflight, i)) ∙ pos-add size (k .cu + cp .inflight) (totalOf (w .heldCounts) js)
-            ∙ ap₂ (λ (m : ℕ) (x : RingCursor). steps m (totalOf (w .heldCounts) js) x) (sym (c-size l laid-out ret w q k))
+            (k .c-avail ∙ ap (pos size) (omega (arith, k .ca-is, k .fa-is, k .inflight, i)) ∙ pos-add size (k .cu + cp .inflight) (totalOf (w .consumer .counts) js)
+            ∙ ap₂ (λ (m : ℕ) (x : RingCursor). steps m (totalOf (w .consumer .counts) js) x) (sym (c-size l laid-out ret w q k))
             (sym (sym (ap (λ (x : Checkpoint). x .avail) v) ∙ c .1 .1 ∙ ap (λ (x : Checkpoint). pos size (k .cu + x .inflight)) v)))
 
         -- the world behind an accepted rollback
         abbrev cons′ : RingConsumer
-        cons′ = record { layout = w .cons .layout; avail = cp .avail; used = w .cons .used; inflight = cp .inflight; shadow = w .cons .shadow }
+        cons′ = record { layout = w .consumer .end .layout; avail = cp .avail; used = w .consumer .end .used; inflight = cp .inflight; shadow = w .consumer .end .shadow }
 
         abbrev roll-world : World
-        roll-world = record { prod = w .prod; ids = w .ids; counts = w .counts; cons = cons′; heldCounts = clearedOf (w .heldCounts) js; ring = w .ring }
+        roll-world = afterConsumer w (record { end = cons′; counts = clearedOf (w .consumer .counts) js }) (w .ring)
 
         -- the queue behind it
         abbrev q′ : Queue Checkpoint
@@ -220,7 +228,7 @@ module _ (l : Layout) (laid-out : badLayout l ≡ false) where
               marks = q .marks;
             }
 
-        roll-like : Current (w .cons) cp (totalOf (w .heldCounts) js) → Like l ret roll-world q′
+        roll-like : Current (w .consumer .end) cp (totalOf (w .consumer .counts) js) → Like l ret roll-world q′
         roll-like cur =
             let c = check in
             let v = u .value in
@@ -249,7 +257,7 @@ module _ (l : Layout) (laid-out : badLayout l ≡ false) where
               whole = k .whole;
               ids-whole = k .ids-whole;
               counts-whole = k .counts-whole;
-              held-whole = omega (arith, k .held-whole, cleared-length (w .heldCounts) js);
+              held-whole = omega (arith, k .held-whole, cleared-length (w .consumer .counts) js);
               spelled = subst (Spells size (view size (l .table) (w .ring)) (k .fa)) (sym again) (k .spelled);
               returned = k .returned;
               rounds = k .rounds;
@@ -270,9 +278,9 @@ module _ (l : Layout) (laid-out : badLayout l ≡ false) where
               checks = k .checks;
             }
           where
-            left-at : (y : ℕ) → y < size → getD (clearedOf (w .heldCounts) js) y 0 ≡ slots y (O q) + slots y (ofItems (items up))
+            left-at : (y : ℕ) → y < size → getD (clearedOf (w .consumer .counts) js) y 0 ≡ slots y (O q) + slots y (ofItems (items up))
             left-at y h =
-                let c = cleared-at (w .heldCounts) js y (omega (arith, h, k .held-whole)) in
+                let c = cleared-at (w .consumer .counts) js y (omega (arith, h, k .held-whole)) in
                 by-lt 0 (times y js)
                 (λ z.
                 let o : 0 < occ y (ofItems (items back)) = omega (arith, z, back-times y) in
@@ -284,60 +292,61 @@ module _ (l : Layout) (laid-out : badLayout l ≡ false) where
                 let s : slots y (ofItems (items back)) ≡ 0 = slots-none y (ofItems (items back)) (omega (arith, e, back-times y)) in
                 omega (arith, c .1 e, k .c-nums y h, slotss y, s))
 
-      -- ROLLBACK: any checkpoint and any list; of an accepted one the premise is granted
+      -- ROLLBACK: any checkpoint and any list; of an accepted one the premise is granted, and what is due by the history is due by the queue
       pub roll-good :
-          (said.rolled cp js ≡ saysRolled (w .cons .layout .size) cp js (rolls .answer) → Undo q cp js)
-          → Good l q (saysRolled (w .cons .layout .size) cp js (rolls .answer)) (afterRolled w rolls)
-      roll-good grant =
+          (h : History Checkpoint) → (UndoesIntact h cp js → UndoIntact q cp js) → (said.rolled cp js ≡ saysRolled size cp js (rolls .answer) → Undo q cp js)
+          → GoodAfter l h q (saysRolled size cp js (rolls .answer)) (afterRolled w rolls)
+      roll-good h due grant =
           let s = c-size l laid-out ret w q k in
           let r = c-sound l laid-out ret w q k in
           split on-ring
           (λ t.
           let a = both-low t in
-          let z = handed-goes (w .cons) cp (length (w .heldCounts)) r (a .0) (a .1) (omega (arith, s, k .held-whole)) 0 in
-          split (badIds (w .cons .layout .size) (w .heldCounts) js || staleOf (w .cons) cp (totalOf (w .heldCounts) js))
-          (λ bad. roll-no 9 true (omega arith) (rollback-refused (w .cons) (w .heldCounts) cp js z bad) t (
+          let z = handed-goes (w .consumer .end) cp (length (w .consumer .counts)) r (a .0) (a .1) (omega (arith, s, k .held-whole)) 0 in
+          split (badIds (w .consumer .end .layout .size) (w .consumer .counts) js || staleOf (w .consumer .end) cp (totalOf (w .consumer .counts) js))
+          (λ bad. roll-no h 9 true (omega arith) (rollback-refused (w .consumer .end) (w .consumer .counts) cp js z bad) t (
             (
-              refl,
-              λ ua.
+              λ d.
+                  let ua = due d in
                   let u = ua .undo in
-                  true-false (sym bad ∙ simp (ap (λ (m : ℕ). badIds m (w .heldCounts) js) s ∙ none-bad-now u, stands-current u (ua .stand))),
+                  true-false (sym bad ∙ simp (ap (λ (m : ℕ). badIds m (w .consumer .counts) js) s ∙ none-bad-now u, stands-current u (ua .stand))),
+              inr (refl, refl),
             ),
-            (ret, like-look l laid-out ret w q k (said.refused (said.rollback cp js) true 9) (k .promise)),
+            (ret, like-unchanged l laid-out ret w q k (said.refused (said.rollback cp js) true 9) (k .promise)),
           ))
           (λ fine.
-          let behind : RingConsumer = record { layout = w .cons .layout; avail = cp .avail; used = w .cons .used; inflight = cp .inflight; shadow = w .cons .shadow } in
-          let e : rolls ≡ rolled (done []) behind (clearedOf (w .heldCounts) js) = rollback-done (w .cons) (w .heldCounts) cp js z fine ∙ ap (λ (x : RingConsumer). rolled (done []) x (clearedOf (w .heldCounts) js)) (back-is (w .cons) cp) in
-          let says : saysRolled (w .cons .layout .size) cp js (rolls .answer) ≡ said.rolled cp js = ap (λ (o : Rolled). saysRolled (w .cons .layout .size) cp js (o .answer)) e in
+          let behind : RingConsumer = record { layout = w .consumer .end .layout; avail = cp .avail; used = w .consumer .end .used; inflight = cp .inflight; shadow = w .consumer .end .shadow } in
+          let e : rolls ≡ rolled (done []) behind (clearedOf (w .consumer .counts) js) = rollback-done (w .consumer .end) (w .consumer .counts) cp js z fine ∙ ap (λ (x : RingConsumer). rolled (done []) x (clearedOf (w .consumer .counts) js)) (back-is (w .consumer .end) cp) in
+          let says : saysRolled size cp js (rolls .answer) ≡ said.rolled cp js = ap (λ (o : Rolled). saysRolled size cp js (o .answer)) e in
           let u = grant (sym says) in
-          good-by l q _ (said.rolled cp js) _ (roll-world u) says (ap (afterRolled w) e)
-          (u, (ret, subst (Like l ret (roll-world u)) (sym (queue-is u)) (roll-like u (current (w .cons) cp (totalOf (w .heldCounts) js) (or-right fine)))))))
-          (λ f. roll-no 7 false (omega arith)
-          (rollback-stopped (w .cons) (w .heldCounts) cp js (λ y. omega (arith, handed-bad (w .cons) cp (length (w .heldCounts)) (off f) 0, y))
-          ∙ ap (λ (m : ℕ). rolled (refused m) (w .cons) (w .heldCounts)) (handed-bad (w .cons) cp (length (w .heldCounts)) (off f) 0))
+          good-after-by l h q _ (said.rolled cp js) _ (roll-world u) says (ap (afterRolled w) e)
+          (u, (ret, subst (Like l ret (roll-world u)) (sym (queue-is u)) (roll-like u (current (w .consumer .end) cp (totalOf (w .consumer .counts) js) (or-right fine)))))))
+          (λ f. roll-no h 7 false (omega arith)
+          (rollback-stopped (w .consumer .end) (w .consumer .counts) cp js (λ y. omega (arith, handed-bad (w .consumer .end) cp (length (w .consumer .counts)) (off f) 0, y))
+          ∙ ap (λ (m : ℕ). rolled (refused m) (w .consumer .end) (w .consumer .counts)) (handed-bad (w .consumer .end) cp (length (w .consumer .counts)) (off f) 0))
           f
-          ((refl, λ ua. true-false (sym (taken-on-ring (ua .undo)) ∙ f)), (ret, like-look l laid-out ret w q k (said.refused (said.rollback cp js) false 7) (k .promise))))
+          ((λ d. true-false (sym (taken-on-ring (due d .undo)) ∙ f), inl (tt, (refl, refl))), (ret, like-unchanged l laid-out ret w q k (said.refused (said.rollback cp js) false 7) (k .promise))))
         where
           true-false : true ≡ false → ⊥
           true-false e = let y : _≡_ {A = ℕ} 0 1 = cc in omega arith
 
-          or-right : badIds (w .cons .layout .size) (w .heldCounts) js || staleOf (w .cons) cp (totalOf (w .heldCounts) js) ≡ false → staleOf (w .cons) cp (totalOf (w .heldCounts) js) ≡ false
-          or-right e = neither (badIds (w .cons .layout .size) (w .heldCounts) js) (staleOf (w .cons) cp (totalOf (w .heldCounts) js)) e .1
+          or-right : badIds (w .consumer .end .layout .size) (w .consumer .counts) js || staleOf (w .consumer .end) cp (totalOf (w .consumer .counts) js) ≡ false → staleOf (w .consumer .end) cp (totalOf (w .consumer .counts) js) ≡ false
+          or-right e = neither (badIds (w .consumer .end .layout .size) (w .consumer .counts) js) (staleOf (w .consumer .end) cp (totalOf (w .consumer .counts) js)) e .1
 
-          both-low : on-ring ≡ true → (cp .avail .head < w .cons .layout .size) × (cp .used .head < w .cons .layout .size)
+          both-low : on-ring ≡ true → (cp .avail .head < w .consumer .end .layout .size) × (cp .used .head < w .consumer .end .layout .size)
           both-low t =
-              let p = both-of (ltb (cp .avail .head) (w .cons .layout .size)) (ltb (cp .used .head) (w .cons .layout .size)) t in
-              (ltb-true (cp .avail .head) (w .cons .layout .size) (p .0), ltb-true (cp .used .head) (w .cons .layout .size) (p .1))
+              let p = both-of (ltb (cp .avail .head) (w .consumer .end .layout .size)) (ltb (cp .used .head) (w .consumer .end .layout .size)) t in
+              (ltb-true (cp .avail .head) (w .consumer .end .layout .size) (p .0), ltb-true (cp .used .head) (w .consumer .end .layout .size) (p .1))
             where
               both-of : (x y : Bool) → x && y ≡ true → (x ≡ true) × (y ≡ true)
               both-of true y e = (refl, e)
               both-of false y e = let z : _≡_ {A = ℕ} 0 1 = cc in absurd (omega arith)
 
-          off : on-ring ≡ false → leb (w .cons .layout .size) (cp .avail .head) || leb (w .cons .layout .size) (cp .used .head) ≡ true
+          off : on-ring ≡ false → leb (w .consumer .end .layout .size) (cp .avail .head) || leb (w .consumer .end .layout .size) (cp .used .head) ≡ true
           off f =
-              by-lt (cp .avail .head) (w .cons .layout .size)
+              by-lt (cp .avail .head) (w .consumer .end .layout .size)
               (λ a.
-              by-lt (cp .used .head) (w .cons .layout .size)
-              (λ d. absurd (true-false (sym (and-true (ltb (cp .avail .head) (w .cons .layout .size)) (ltb (cp .used .head) (w .cons .layout .size)) (lt-ltb (cp .avail .head) (w .cons .layout .size) a) (lt-ltb (cp .used .head) (w .cons .layout .size) d)) ∙ f)))
-              (λ d. simp (lt-leb (w .cons .layout .size) (cp .avail .head) a, le-leb (w .cons .layout .size) (cp .used .head) d)))
-              (λ a. simp (le-leb (w .cons .layout .size) (cp .avail .head) a))
+              by-lt (cp .used .head) (w .consumer .end .layout .size)
+              (λ d. absurd (true-false (sym (and-true (ltb (cp .avail .head) (w .consumer .end .layout .size)) (ltb (cp .used .head) (w .consumer .end .layout .size)) (lt-ltb (cp .avail .head) (w .consumer .end .layout .size) a) (lt-ltb (cp .used .head) (w .consumer .end .layout .size) d)) ∙ f)))
+              (λ d. simp (lt-leb (w .consumer .end .layout .size) (cp .avail .head) a, le-leb (w .consumer .end .layout .size) (cp .used .head) d)))
+              (λ a. simp (le-leb (w .consumer .end .layout .size) (cp .avail .head) a))

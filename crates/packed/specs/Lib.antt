@@ -1,5 +1,3 @@
 pub mod Calls
 pub mod Machine
 pub mod Opening
-pub mod Reset
-pub mod Since

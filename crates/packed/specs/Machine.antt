@@ -1,13 +1,13 @@
--- Both ends over one ring, as a machine: what a call says and leaves is what the very definitions give that the contracts of `producer` and
--- `consumer` cite.
+-- Both ends over one ring, as a machine. A ring is what its calls answer and leave; the packed ring is the very definitions that the contracts of
+-- `producer` and `consumer` cite.
 use Prim.Native.Nat.{ℕ, _-_}
+use mathlib.Core.Path.{_≡_}
 use mathlib.Core.List.{List, [], _∷_}
-use mathlib.Core.Bool.{Bool, true, not, cond, _&&_}
-use lib.Dec.{ltb, leb, eqb}
-use lib.ListN.{length, getD, take}
+use lib.Dec.{T, eqb}
+use lib.ListN.{getD}
 use Rattle.base.specs.Answer.{Answer, bit}
 use Rattle.cursor.specs.Cursor.{at, valuesOf}
-use Rattle.chain.specs.Chain.{badSlices}
+use Rattle.layout.specs.declared.Layout.{Layout}
 use Rattle.ring.specs.Asked.{askOf}
 use Rattle.producer.specs.declared.RingProducer.{RingProducer}
 use Rattle.producer.specs.Outcome as made
@@ -16,34 +16,288 @@ use Rattle.producer.specs.Submit.{submitOf}
 use Rattle.producer.specs.Tell as madeTold
 use Rattle.producer.specs.Poll as usedPoll
 use Rattle.producer.specs.Notices as usedNotices
+use Rattle.producer.specs.Fresh as madeFresh
 use Rattle.consumer.specs.declared.RingConsumer.{RingConsumer}
 use Rattle.consumer.specs.declared.Checkpoint.{Checkpoint}
-use Rattle.consumer.specs.Outcome as takenOutcome
+use Rattle.consumer.specs.Outcome as taken
 use Rattle.consumer.specs.Record as takenRecord
 use Rattle.consumer.specs.Poll.{Taken, pollOf, peekOf}
 use Rattle.consumer.specs.Complete.{completeOf, tellOf}
 use Rattle.consumer.specs.Rollback.{checkpointOf, checkpointValues, rollbackOf}
 use Rattle.consumer.specs.Notices as availNotices
+use Rattle.consumer.specs.Fresh as takenFresh
 use Rattle.queue.specs.History.{Chain, Event}
 use Rattle.queue.specs.History as said
+use Rattle.queue.specs.Promise.{forHanded}
 use Rattle.queue.specs.Machine.{Machine}
-use Rattle.packed.specs.Calls.{Own, Foreign, Call, TypedCall, ProducerQuestion, ConsumerQuestion, oneOf}
-use Rattle.packed.specs.Calls.{producerNumFree, producerNumInflight, producerIsFull, producerLen, producerDescTable, producerAvailCursor, producerUsedCursor, consumerNumFree, consumerNumInflight, consumerIsFull, consumerLen, consumerAvailCursor, consumerUsedCursor}
-use Rattle.packed.specs.Calls.{submitAvailable, submitAvailableWithNotify, submitOne, submitOneWithNotify, pollUsed, nextId, producerAsked, shouldNotifySince, turnUsed, enableUsedDesc, enableUsedForNext, pollAvailable, submitUsed, submitUsedWithNotify, peekAvailable, pollCheckpoint, rollbackPolls, consumerAsked, turnAvail, enableAvailDesc, enableAvailForNext, producers, consumers, own, foreign}
+use Rattle.queue.specs.Says.{says}
+use Rattle.packed.specs.Calls.{ProducerQuestion, ConsumerQuestion, ProducerCall, ConsumerCall, Own, Lent, Foreign, Call, Given}
+use Rattle.packed.specs.Calls.{oneOf, producerRequest, consumerRequest, requestOf}
+use Rattle.packed.specs.Calls.{producerNumFree, producerNumInflight, producerIsFull, producerLen, producerDescTable}
+use Rattle.packed.specs.Calls.{producerAvailCursor, producerUsedCursor}
+use Rattle.packed.specs.Calls.{consumerNumFree, consumerNumInflight, consumerIsFull, consumerLen, consumerAvailCursor, consumerUsedCursor}
+use Rattle.packed.specs.Calls.{submitAvailable, submitAvailableWithNotify, submitOne, submitOneWithNotify, pollUsed, nextId}
+use Rattle.packed.specs.Calls.{producerAsked, shouldNotifySince, turnUsed, enableUsedDesc, enableUsedForNext, producerReset}
+use Rattle.packed.specs.Calls.{pollAvailable, submitUsed, submitUsedWithNotify, peekAvailable, pollCheckpoint, rollbackPolls}
+use Rattle.packed.specs.Calls.{consumerAsked, turnAvail, enableAvailDesc, enableAvailForNext, consumerReset}
+use Rattle.packed.specs.Calls.{its, another, byProducer, byConsumer, toProducer, toConsumer, newProducer, newConsumer, own, foreign}
 
--- the producer's last record and tables, the consumer's (`heldCounts`: for each ID, the slots of the chain that it holds under it), and the ring's
--- bytes
-pub record World : Type 0 where
-  pub prod : RingProducer
+-- ---- what there is: each end's last record and tables, and the ring's bytes
+
+pub record ProducerSide : Type 0 where
+  pub end : RingProducer
   pub ids : List ℕ
   pub counts : List ℕ
-  pub cons : RingConsumer
-  pub heldCounts : List ℕ
+
+pub record ConsumerSide : Type 0 where
+  pub end : RingConsumer
+  -- for each ID, the slots of the chain that it holds under it
+  pub counts : List ℕ
+
+pub record World : Type 0 where
+  pub producer : ProducerSide
+  pub consumer : ConsumerSide
   pub ring : List ℕ
 
--- ---- the answers of the producer's and the consumer's questions, as their contracts have them (packed/proofs/Tied.antt). The promise says
--- nothing of the values; what they count is told by packed/proofs/Counted.antt
+-- ---- a ring: what each call answers, and what it leaves of all that it is lent
 
+pub record ProducerLeaves : Type 0 where
+  pub answer : Answer
+  pub side : ProducerSide
+  pub ring : List ℕ
+
+-- of a poll, the two outputs too
+pub record ConsumerLeaves : Type 0 where
+  pub answer : Answer
+  pub side : ConsumerSide
+  pub ring : List ℕ
+  pub addrs : List ℕ
+  pub lens : List ℕ
+
+-- of an opening: its number, the record that it answers (where the number is 0), and its tables
+pub record ProducerOpens : Type 0 where
+  pub number : ℕ
+  pub side : ProducerSide
+
+pub record ConsumerOpens : Type 0 where
+  pub number : ℕ
+  pub side : ConsumerSide
+
+pub record Ring : Type 0 where
+  pub producer : ProducerCall → ProducerSide → List ℕ → ProducerLeaves
+  pub consumer : ConsumerCall → ConsumerSide → List ℕ → ConsumerLeaves
+  -- geometry, bytes, tables
+  pub producerNew : Layout → List ℕ → List ℕ → List ℕ → ProducerOpens
+  pub consumerNew : Layout → List ℕ → List ℕ → ConsumerOpens
+
+-- ---- its machine
+
+-- a checkpoint out of its five values
+abbrev pub checkpointIn : List ℕ → Checkpoint
+checkpointIn vs =
+    record { avail = at (getD vs 0 0) (eqb (getD vs 1 0) 1); used = at (getD vs 2 0) (eqb (getD vs 3 0) 1); inflight = getD vs 4 0 }
+
+-- the outputs that a call is lent
+abbrev pub addrsLent : ConsumerCall → List ℕ
+addrsLent (pollAvailable addrs lens) = addrs
+addrsLent (submitUsed i l) = []
+addrsLent (submitUsedWithNotify i l) = []
+addrsLent peekAvailable = []
+addrsLent pollCheckpoint = []
+addrsLent (rollbackPolls c js) = []
+addrsLent (consumerAsked q) = []
+addrsLent (turnAvail f) = []
+addrsLent (enableAvailDesc o b) = []
+addrsLent enableAvailForNext = []
+addrsLent consumerReset = []
+
+abbrev pub lensLent : ConsumerCall → List ℕ
+lensLent (pollAvailable addrs lens) = lens
+lensLent (submitUsed i l) = []
+lensLent (submitUsedWithNotify i l) = []
+lensLent peekAvailable = []
+lensLent pollCheckpoint = []
+lensLent (rollbackPolls c js) = []
+lensLent (consumerAsked q) = []
+lensLent (turnAvail f) = []
+lensLent (enableAvailDesc o b) = []
+lensLent enableAvailForNext = []
+lensLent consumerReset = []
+
+-- what a call is given, of a thing that may be the end's own; and what the end has of it afterwards: of its own, what the call left
+abbrev pub given : {A : Type 0} → Lent A → A → A
+given its a = a
+given (another b) a = b
+
+abbrev pub kept : {A : Type 0} → Lent A → A → A → A
+kept its before exit = exit
+kept (another b) before exit = before
+
+-- all that a call is lent: records and tables, bytes, outputs
+pub record Lendings : Type 0 where
+  pub world : World
+  pub addrs : List ℕ
+  pub lens : List ℕ
+
+abbrev pub lendings : World → List ℕ → List ℕ → Lendings
+lendings w addrs lens = record { world = w; addrs = addrs; lens = lens }
+
+-- the two ends' own records and tables stay where they are, but for the end whose call it is
+abbrev pub afterProducer : World → ProducerSide → List ℕ → World
+afterProducer w s r = record { producer = s; consumer = w .consumer; ring = r }
+
+abbrev pub afterConsumer : World → ConsumerSide → List ℕ → World
+afterConsumer w s r = record { producer = w .producer; consumer = s; ring = r }
+
+-- the world in which a foreign call is made: what it is given
+abbrev pub givenIn : World → Foreign → World
+givenIn w (toProducer l b c) =
+    afterProducer w
+    (record { end = given (l .end) (w .producer .end); ids = given (l .ids) (w .producer .ids); counts = given (l .counts) (w .producer .counts) })
+    (given b (w .ring))
+givenIn w (toConsumer l b c) =
+    afterConsumer w (record { end = given (l .end) (w .consumer .end); counts = given (l .counts) (w .consumer .counts) }) (given b (w .ring))
+givenIn w (newProducer g i k b) =
+    afterProducer w (record { end = w .producer .end; ids = given i (w .producer .ids); counts = given k (w .producer .counts) }) (given b (w .ring))
+givenIn w (newConsumer g k b) =
+    afterConsumer w (record { end = w .consumer .end; counts = given k (w .consumer .counts) }) (given b (w .ring))
+
+-- the world afterwards, if the call left v where it was given `givenIn w f`
+abbrev pub keptIn : World → Foreign → World → World
+keptIn w (toProducer l b c) v =
+    afterProducer w
+    (record {
+      end = kept (l .end) (w .producer .end) (v .producer .end);
+      ids = kept (l .ids) (w .producer .ids) (v .producer .ids);
+      counts = kept (l .counts) (w .producer .counts) (v .producer .counts);
+    })
+    (kept b (w .ring) (v .ring))
+keptIn w (toConsumer l b c) v =
+    afterConsumer w
+    (record { end = kept (l .end) (w .consumer .end) (v .consumer .end); counts = kept (l .counts) (w .consumer .counts) (v .consumer .counts) })
+    (kept b (w .ring) (v .ring))
+keptIn w (newProducer g i k b) v =
+    afterProducer w
+    (record {
+      end = w .producer .end;
+      ids = kept i (w .producer .ids) (v .producer .ids);
+      counts = kept k (w .producer .counts) (v .producer .counts);
+    })
+    (kept b (w .ring) (v .ring))
+keptIn w (newConsumer g k b) v =
+    afterConsumer w (record { end = w .consumer .end; counts = kept k (w .consumer .counts) (v .consumer .counts) }) (kept b (w .ring) (v .ring))
+
+-- "no reset": a reset of an end given its own is in a run only where it is refused
+abbrev pub FairProducer : ProducerCall → ℕ → Type 0
+FairProducer (submitAvailable c) n = Unit
+FairProducer (submitAvailableWithNotify c) n = Unit
+FairProducer (submitOne a l b) n = Unit
+FairProducer (submitOneWithNotify a l b) n = Unit
+FairProducer pollUsed n = Unit
+FairProducer nextId n = Unit
+FairProducer (producerAsked q) n = Unit
+FairProducer (shouldNotifySince c) n = Unit
+FairProducer (turnUsed f) n = Unit
+FairProducer (enableUsedDesc o b) n = Unit
+FairProducer enableUsedForNext n = Unit
+FairProducer producerReset n = n ≡ 0 → ⊥
+
+abbrev pub FairConsumer : ConsumerCall → ℕ → Type 0
+FairConsumer (pollAvailable a l) n = Unit
+FairConsumer (submitUsed i l) n = Unit
+FairConsumer (submitUsedWithNotify i l) n = Unit
+FairConsumer peekAvailable n = Unit
+FairConsumer pollCheckpoint n = Unit
+FairConsumer (rollbackPolls c js) n = Unit
+FairConsumer (consumerAsked q) n = Unit
+FairConsumer (turnAvail f) n = Unit
+FairConsumer (enableAvailDesc o b) n = Unit
+FairConsumer enableAvailForNext n = Unit
+FairConsumer consumerReset n = n ≡ 0 → ⊥
+
+module _ (R : Ring) where
+  -- a call by an end given its own: its answer, and all that it was lent when it returns
+  abbrev pub ownAnswer : World → Own → Answer
+  ownAnswer w (byProducer c) = R .producer c (w .producer) (w .ring) .answer
+  ownAnswer w (byConsumer c) = R .consumer c (w .consumer) (w .ring) .answer
+
+  abbrev pub ownEntry : World → Own → Lendings
+  ownEntry w (byProducer c) = lendings w [] []
+  ownEntry w (byConsumer c) = lendings w (addrsLent c) (lensLent c)
+
+  abbrev pub ownExit : World → Own → Lendings
+  ownExit w (byProducer c) =
+      let o = R .producer c (w .producer) (w .ring) in
+      lendings (afterProducer w (o .side) (o .ring)) [] []
+  ownExit w (byConsumer c) =
+      let o = R .consumer c (w .consumer) (w .ring) in
+      lendings (afterConsumer w (o .side) (o .ring)) (o .addrs) (o .lens)
+
+  -- a foreign one, in the world that it is given
+  abbrev pub foreignNumber : World → Foreign → ℕ
+  foreignNumber v (toProducer l b c) = ownAnswer v (byProducer c) .number
+  foreignNumber v (toConsumer l b c) = ownAnswer v (byConsumer c) .number
+  foreignNumber v (newProducer g i k b) = R .producerNew g (v .ring) (v .producer .ids) (v .producer .counts) .number
+  foreignNumber v (newConsumer g k b) = R .consumerNew g (v .ring) (v .consumer .counts) .number
+
+  abbrev pub foreignEntry : World → Foreign → Lendings
+  foreignEntry v (toProducer l b c) = ownEntry v (byProducer c)
+  foreignEntry v (toConsumer l b c) = ownEntry v (byConsumer c)
+  foreignEntry v (newProducer g i k b) = lendings v [] []
+  foreignEntry v (newConsumer g k b) = lendings v [] []
+
+  abbrev pub foreignExit : World → Foreign → Lendings
+  foreignExit v (toProducer l b c) = ownExit v (byProducer c)
+  foreignExit v (toConsumer l b c) = ownExit v (byConsumer c)
+  foreignExit v (newProducer g i k b) =
+      let o = R .producerNew g (v .ring) (v .producer .ids) (v .producer .counts) in
+      lendings (afterProducer v (record { end = v .producer .end; ids = o .side .ids; counts = o .side .counts }) (v .ring)) [] []
+  foreignExit v (newConsumer g k b) =
+      let o = R .consumerNew g (v .ring) (v .consumer .counts) in
+      lendings (afterConsumer v (record { end = v .consumer .end; counts = o .side .counts }) (v .ring)) [] []
+
+  abbrev pub callEntry : World → Call → Lendings
+  callEntry w (own c) = ownEntry w c
+  callEntry w (foreign f) = foreignEntry (givenIn w f) f
+
+  abbrev pub callExit : World → Call → Lendings
+  callExit w (own c) = ownExit w c
+  callExit w (foreign f) = foreignExit (givenIn w f) f
+
+  -- the world after a call: each end has its own as the call left it
+  unfoldable pub leaves : World → Call → World
+  leaves w (own c) = ownExit w c .world
+  leaves w (foreign f) = keptIn w f (foreignExit (givenIn w f) f .world)
+
+  -- what is fair: no reset that is accepted, and no call given what is not the end's own but one that is refused for it
+  abbrev pub fair : World → Call → Type 0
+  fair w (own (byProducer c)) = FairProducer c (ownAnswer w (byProducer c) .number)
+  fair w (own (byConsumer c)) = FairConsumer c (ownAnswer w (byConsumer c) .number)
+  fair w (foreign f) = T (forHanded (foreignNumber (givenIn w f) f))
+
+  module _ (size : ℕ) where
+    -- the call with its answer; what a poll gave is read from its outputs at exit
+    unfoldable pub callSays : World → Call → Event Checkpoint
+    callSays w (own c) = says checkpointIn (requestOf size (own c)) (ownAnswer w c) (ownExit w c .addrs) (ownExit w c .lens)
+    callSays w (foreign f) = said.unchanged (said.foreignAnswered (foreignNumber (givenIn w f) f))
+
+    abbrev pub machineOf : Machine Checkpoint
+    machineOf =
+        record {
+          World = World;
+          Call = Given;
+          request = λ c. requestOf size (c .call);
+          Fair = λ w c. fair w (c .call);
+          say = λ w c. callSays w (c .call);
+          go = λ w c. leaves w (c .call);
+          Lent = Lendings;
+          entry = λ w c. callEntry w (c .call);
+          exit = λ w c. callExit w (c .call);
+        }
+
+-- ---- the packed ring: each call is the definition that its contract cites
+
+-- the answers of the questions; what they count is no part of demand 3
 abbrev pub producerValues : ProducerQuestion → RingProducer → List ℕ
 producerValues producerNumFree p = p .free ∷ []
 producerValues producerNumInflight p = (p .layout .size - p .free) ∷ []
@@ -61,200 +315,104 @@ consumerValues consumerLen p = p .layout .size ∷ []
 consumerValues consumerAvailCursor p = valuesOf (p .avail)
 consumerValues consumerUsedCursor p = valuesOf (p .used)
 
--- in a world
-abbrev pub producerAnswers : World → ProducerQuestion → Answer
-producerAnswers w q = askOf (madeRecord.badRecord (w .prod)) (producerValues q (w .prod))
+abbrev pub producerAnswers : RingProducer → ProducerQuestion → Answer
+producerAnswers p q = askOf (madeRecord.badRecord p) (producerValues q p)
 
-abbrev pub consumerAnswers : World → ConsumerQuestion → Answer
-consumerAnswers w q = askOf (takenRecord.badRecord (w .cons)) (consumerValues q (w .cons))
+abbrev pub consumerAnswers : RingConsumer → ConsumerQuestion → Answer
+consumerAnswers p q = askOf (takenRecord.badRecord p) (consumerValues q p)
 
--- ---- an event, read off a call's answer, what was handed in with it, and the outputs at exit
+-- what a call of the producer leaves: all of it; record and bytes; nothing changed
+abbrev pub madeAll : made.Outcome → ProducerLeaves
+madeAll o = record { answer = o .answer; side = record { end = o .end; ids = o .ids; counts = o .counts }; ring = o .ring }
 
--- the answer's value number i
-abbrev pub value : ℕ → Answer → ℕ
-value i a = getD (a .values) i 0
+abbrev pub madeChanged : ProducerSide → made.Changed → ProducerLeaves
+madeChanged s o = record { answer = o .answer; side = record { end = o .end; ids = s .ids; counts = s .counts }; ring = o .ring }
 
--- success is number 0
-abbrev pub either : Answer → Event Checkpoint → Event Checkpoint → Event Checkpoint
-either a yes-it no-it = cond (eqb (a .number) 0) yes-it no-it
+abbrev pub madeAnswer : ProducerSide → List ℕ → Answer → ProducerLeaves
+madeAnswer s r a = record { answer = a; side = s; ring = r }
 
--- a refusal of this call; whether what was handed in was good
-abbrev pub no : said.Call Checkpoint → Bool → Answer → Event Checkpoint
-no c good a = said.looked (said.refused c good (a .number))
+-- a submission of a chain, and one with notify; poll_used
+abbrev pub submitsOf : ProducerSide → List ℕ → Chain → made.Outcome
+submitsOf s r c = submitOf (s .end) r (s .ids) (s .counts) (c .addrs) (c .lens) (c .readable)
 
--- a submission of this chain: the ID that it got. Good are "chain slices" of equal length with a readable count within it
-abbrev pub saysSubmitted : Chain → Answer → Event Checkpoint
-saysSubmitted c a =
-    either a (said.submitted (record { id = value 0 a; chain = c }))
-    (no (said.submit c) (not (badSlices (length (c .addrs)) (length (c .lens)) (c .readable))) a)
+abbrev pub tellsOf : ProducerSide → List ℕ → Chain → made.Outcome
+tellsOf s r c = madeTold.tellOf (s .end .avail) (submitsOf s r c)
 
--- poll_used: the completion that it gave back
-abbrev pub saysReclaimed : Answer → Event Checkpoint
-saysReclaimed a = either a (said.reclaimed (record { id = value 0 a; len = value 1 a })) (no said.reclaim true a)
+abbrev pub reclaimsOf : ProducerSide → List ℕ → made.Outcome
+reclaimsOf s r = usedPoll.pollOf (s .end) r (s .ids) (s .counts)
 
--- next_id: the ID that it answered
-abbrev pub saysNext : Answer → Event Checkpoint
-saysNext a = either a (said.looked (said.nexted (value 0 a))) (no said.nextId true a)
+unfoldable pub producerDoes : ProducerCall → ProducerSide → List ℕ → ProducerLeaves
+producerDoes (submitAvailable c) s r = madeAll (submitsOf s r c)
+producerDoes (submitAvailableWithNotify c) s r = madeAll (tellsOf s r c)
+producerDoes (submitOne a l b) s r = madeAll (submitsOf s r (oneOf a l b))
+producerDoes (submitOneWithNotify a l b) s r = madeAll (tellsOf s r (oneOf a l b))
+producerDoes pollUsed s r = madeAll (reclaimsOf s r)
+producerDoes nextId s r = madeAnswer s r (usedPoll.nextOf (s .end) (s .ids) (s .counts))
+producerDoes (producerAsked q) s r = madeAnswer s r (producerAnswers (s .end) q)
+producerDoes (shouldNotifySince c) s r = madeAnswer s r (usedNotices.sinceOf (s .end) r c)
+producerDoes (turnUsed f) s r = madeChanged s (usedNotices.turnOf (s .end) r f)
+producerDoes (enableUsedDesc o b) s r = madeChanged s (usedNotices.armOf (s .end) r o b)
+producerDoes enableUsedForNext s r = madeChanged s (usedNotices.armOf (s .end) r (s .end .used .head) (s .end .used .wrap))
+producerDoes producerReset s r = madeAll (madeFresh.resetOf (s .end) r (s .ids) (s .counts))
 
--- a question or a notification; whether a cursor that was handed in is on the ring
-abbrev pub saysQuiet : Bool → Answer → Event Checkpoint
-saysQuiet good a = either a (said.looked said.quiet) (no said.other good a)
+-- what a call of the consumer leaves: a poll no byte changed, its outputs written; a completion; a rollback; record and bytes; nothing changed
+abbrev pub takenChain : List ℕ → Taken → ConsumerLeaves
+takenChain r t = record { answer = t .answer; side = record { end = t .end; counts = t .counts }; ring = r; addrs = t .addrs; lens = t .lens }
 
--- what a poll gave is read from the answer (ID, elements, readables) and the outputs at exit; outputs are good that have an entry for each
--- slot of the ring
-abbrev pub saysPolled : ℕ → List ℕ → List ℕ → Taken → Event Checkpoint
-saysPolled size outs louts t =
-    either (t .answer)
-    (said.polled (record {
-      id = value 0 (t .answer);
-      chain = record { addrs = take (value 1 (t .answer)) (t .addrs); lens = take (value 1 (t .answer)) (t .lens); readable = value 2 (t .answer) };
-    }))
-    (no said.poll (leb size (length outs) && leb size (length louts)) (t .answer))
+abbrev pub takenAll : taken.Outcome → ConsumerLeaves
+takenAll o = record { answer = o .answer; side = record { end = o .end; counts = o .counts }; ring = o .ring; addrs = []; lens = [] }
 
--- submit_used, with or without notify, of this ID and length
-abbrev pub saysCompleted : ℕ → ℕ → Answer → Event Checkpoint
-saysCompleted id len a =
-    either a (said.completed (record { id = id; len = len })) (no (said.complete (record { id = id; len = len })) true a)
+abbrev pub takenBack : List ℕ → taken.Rolled → ConsumerLeaves
+takenBack r o = record { answer = o .answer; side = record { end = o .end; counts = o .counts }; ring = r; addrs = []; lens = [] }
 
--- peek_available: yes or no
-abbrev pub saysPeeked : Answer → Event Checkpoint
-saysPeeked a = either a (said.looked (said.peeked (eqb (value 0 a) 1))) (no said.other true a)
+abbrev pub takenChanged : ConsumerSide → taken.Changed → ConsumerLeaves
+takenChanged s o = record { answer = o .answer; side = record { end = o .end; counts = s .counts }; ring = o .ring; addrs = []; lens = [] }
 
--- poll_checkpoint: the checkpoint, out of its five values
-abbrev pub saysMarked : Answer → Event Checkpoint
-saysMarked a =
-    either a
-    (said.marked (record { avail = at (value 0 a) (eqb (value 1 a) 1); used = at (value 2 a) (eqb (value 3 a) 1); inflight = value 4 a }))
-    (no said.other true a)
+abbrev pub takenAnswer : ConsumerSide → List ℕ → Answer → ConsumerLeaves
+takenAnswer s r a = record { answer = a; side = s; ring = r; addrs = []; lens = [] }
 
--- rollback_polls with this checkpoint and list; good is a checkpoint whose heads are on the ring
-abbrev pub saysRolled : ℕ → Checkpoint → List ℕ → Answer → Event Checkpoint
-saysRolled size c js a =
-    either a (said.rolled c js)
-    (no (said.rollback c js) (ltb (c .avail .head) size && ltb (c .used .head) size) a)
+-- a poll; a completion, and one with notify; a rollback
+abbrev pub pollsOf : ConsumerSide → List ℕ → List ℕ → List ℕ → Taken
+pollsOf s r addrs lens = pollOf (s .end) r (s .counts) addrs lens
 
--- ---- what a call leaves: of the producer's
+abbrev pub completesOf : ConsumerSide → List ℕ → ℕ → ℕ → taken.Outcome
+completesOf s r id len = completeOf (s .end) r (s .counts) id len
 
--- a submission of a chain, and one with notify
-abbrev pub submitsOf : World → Chain → made.Outcome
-submitsOf w c = submitOf (w .prod) (w .ring) (w .ids) (w .counts) (c .addrs) (c .lens) (c .readable)
+abbrev pub completesTold : ConsumerSide → List ℕ → ℕ → ℕ → taken.Outcome
+completesTold s r id len = tellOf (s .end .used) (completesOf s r id len)
 
-abbrev pub tellsOf : World → Chain → made.Outcome
-tellsOf w c = madeTold.tellOf (w .prod .avail) (submitsOf w c)
+abbrev pub rollsOf : ConsumerSide → Checkpoint → List ℕ → taken.Rolled
+rollsOf s c js = rollbackOf (s .end) (s .counts) c js
 
--- its record and tables, and the bytes; a notification's call leaves its tables alone
-abbrev pub afterMade : World → made.Outcome → World
-afterMade w o = record { prod = o .end; ids = o .ids; counts = o .counts; cons = w .cons; heldCounts = w .heldCounts; ring = o .ring }
+unfoldable pub consumerDoes : ConsumerCall → ConsumerSide → List ℕ → ConsumerLeaves
+consumerDoes (pollAvailable addrs lens) s r = takenChain r (pollsOf s r addrs lens)
+consumerDoes (submitUsed i l) s r = takenAll (completesOf s r i l)
+consumerDoes (submitUsedWithNotify i l) s r = takenAll (completesTold s r i l)
+consumerDoes peekAvailable s r = takenAnswer s r (peekOf (s .end) r)
+consumerDoes pollCheckpoint s r = takenAnswer s r (askOf (takenRecord.badRecord (s .end)) (checkpointValues (checkpointOf (s .end))))
+consumerDoes (rollbackPolls c js) s r = takenBack r (rollsOf s c js)
+consumerDoes (consumerAsked q) s r = takenAnswer s r (consumerAnswers (s .end) q)
+consumerDoes (turnAvail f) s r = takenChanged s (availNotices.turnOf (s .end) r f)
+consumerDoes (enableAvailDesc o b) s r = takenChanged s (availNotices.armOf (s .end) r o b)
+consumerDoes enableAvailForNext s r = takenChanged s (availNotices.armOf (s .end) r (s .end .avail .head) (s .end .avail .wrap))
+consumerDoes consumerReset s r = takenAll (takenFresh.resetOf (s .end) r (s .counts))
 
-abbrev pub afterUsedTurn : World → made.Changed → World
-afterUsedTurn w o = record { prod = o .end; ids = w .ids; counts = w .counts; cons = w .cons; heldCounts = w .heldCounts; ring = o .ring }
+-- the openings: an accepted one answers the fresh record of its geometry
+abbrev pub producerOpensOf : Layout → List ℕ → List ℕ → List ℕ → madeFresh.Open
+producerOpensOf g r i k = madeFresh.openOf (g .size) (g .table) (g .driver) (g .device) r i k
 
--- of the consumer's
+abbrev pub consumerOpensOf : Layout → List ℕ → List ℕ → takenFresh.Open
+consumerOpensOf g r k = takenFresh.openOf (g .size) (g .table) (g .driver) (g .device) r k
 
--- a poll leaves its record and counts; a completion the bytes too; a rollback no byte; a notification's call no count
-abbrev pub afterTaken : World → Taken → World
-afterTaken w t = record { prod = w .prod; ids = w .ids; counts = w .counts; cons = t .end; heldCounts = t .counts; ring = w .ring }
-
-abbrev pub afterCompleted : World → takenOutcome.Outcome → World
-afterCompleted w o = record { prod = w .prod; ids = w .ids; counts = w .counts; cons = o .end; heldCounts = o .counts; ring = o .ring }
-
-abbrev pub afterRolled : World → takenOutcome.Rolled → World
-afterRolled w o = record { prod = w .prod; ids = w .ids; counts = w .counts; cons = o .end; heldCounts = o .counts; ring = w .ring }
-
-abbrev pub afterAvailTurn : World → takenOutcome.Changed → World
-afterAvailTurn w o = record { prod = w .prod; ids = w .ids; counts = w .counts; cons = o .end; heldCounts = w .heldCounts; ring = o .ring }
-
--- ---- one call by an end given its own: what it says, and the world after it, both by the definition that its contract cites
--- (packed/proofs/Tied.antt)
-
-unfoldable pub ownSays : World → Own → Event Checkpoint
-ownSays w (submitAvailable c) = saysSubmitted c (submitsOf w c .answer)
-ownSays w (submitAvailableWithNotify c) = saysSubmitted c (tellsOf w c .answer)
-ownSays w (submitOne a l b) = saysSubmitted (oneOf a l b) (submitsOf w (oneOf a l b) .answer)
-ownSays w (submitOneWithNotify a l b) = saysSubmitted (oneOf a l b) (tellsOf w (oneOf a l b) .answer)
-ownSays w pollUsed = saysReclaimed (usedPoll.pollOf (w .prod) (w .ring) (w .ids) (w .counts) .answer)
-ownSays w nextId = saysNext (usedPoll.nextOf (w .prod) (w .ids) (w .counts))
-ownSays w (producerAsked q) = saysQuiet true (producerAnswers w q)
-ownSays w (shouldNotifySince c) = saysQuiet (ltb (c .head) (w .prod .layout .size)) (usedNotices.sinceOf (w .prod) (w .ring) c)
-ownSays w (turnUsed f) = saysQuiet true (usedNotices.turnOf (w .prod) (w .ring) f .answer)
-ownSays w (enableUsedDesc o b) = saysQuiet true (usedNotices.armOf (w .prod) (w .ring) o b .answer)
-ownSays w enableUsedForNext = saysQuiet true (usedNotices.armOf (w .prod) (w .ring) (w .prod .used .head) (w .prod .used .wrap) .answer)
-ownSays w (pollAvailable outs louts) = saysPolled (w .cons .layout .size) outs louts (pollOf (w .cons) (w .ring) (w .heldCounts) outs louts)
-ownSays w (submitUsed i l) = saysCompleted i l (completeOf (w .cons) (w .ring) (w .heldCounts) i l .answer)
-ownSays w (submitUsedWithNotify i l) = saysCompleted i l (tellOf (w .cons .used) (completeOf (w .cons) (w .ring) (w .heldCounts) i l) .answer)
-ownSays w peekAvailable = saysPeeked (peekOf (w .cons) (w .ring))
-ownSays w pollCheckpoint = saysMarked (askOf (takenRecord.badRecord (w .cons)) (checkpointValues (checkpointOf (w .cons))))
-ownSays w (rollbackPolls c js) = saysRolled (w .cons .layout .size) c js (rollbackOf (w .cons) (w .heldCounts) c js .answer)
-ownSays w (consumerAsked q) = saysQuiet true (consumerAnswers w q)
-ownSays w (turnAvail f) = saysQuiet true (availNotices.turnOf (w .cons) (w .ring) f .answer)
-ownSays w (enableAvailDesc o b) = saysQuiet true (availNotices.armOf (w .cons) (w .ring) o b .answer)
-ownSays w enableAvailForNext = saysQuiet true (availNotices.armOf (w .cons) (w .ring) (w .cons .avail .head) (w .cons .avail .wrap) .answer)
-
-unfoldable pub ownLeaves : World → Own → World
-ownLeaves w (submitAvailable c) = afterMade w (submitsOf w c)
-ownLeaves w (submitAvailableWithNotify c) = afterMade w (tellsOf w c)
-ownLeaves w (submitOne a l b) = afterMade w (submitsOf w (oneOf a l b))
-ownLeaves w (submitOneWithNotify a l b) = afterMade w (tellsOf w (oneOf a l b))
-ownLeaves w pollUsed = afterMade w (usedPoll.pollOf (w .prod) (w .ring) (w .ids) (w .counts))
-ownLeaves w nextId = w
-ownLeaves w (producerAsked q) = w
-ownLeaves w (shouldNotifySince c) = w
-ownLeaves w (turnUsed f) = afterUsedTurn w (usedNotices.turnOf (w .prod) (w .ring) f)
-ownLeaves w (enableUsedDesc o b) = afterUsedTurn w (usedNotices.armOf (w .prod) (w .ring) o b)
-ownLeaves w enableUsedForNext = afterUsedTurn w (usedNotices.armOf (w .prod) (w .ring) (w .prod .used .head) (w .prod .used .wrap))
-ownLeaves w (pollAvailable outs louts) = afterTaken w (pollOf (w .cons) (w .ring) (w .heldCounts) outs louts)
-ownLeaves w (submitUsed i l) = afterCompleted w (completeOf (w .cons) (w .ring) (w .heldCounts) i l)
-ownLeaves w (submitUsedWithNotify i l) = afterCompleted w (tellOf (w .cons .used) (completeOf (w .cons) (w .ring) (w .heldCounts) i l))
-ownLeaves w peekAvailable = w
-ownLeaves w pollCheckpoint = w
-ownLeaves w (rollbackPolls c js) = afterRolled w (rollbackOf (w .cons) (w .heldCounts) c js)
-ownLeaves w (consumerAsked q) = w
-ownLeaves w (turnAvail f) = afterAvailTurn w (availNotices.turnOf (w .cons) (w .ring) f)
-ownLeaves w (enableAvailDesc o b) = afterAvailTurn w (availNotices.armOf (w .cons) (w .ring) o b)
-ownLeaves w enableAvailForNext = afterAvailTurn w (availNotices.armOf (w .cons) (w .ring) (w .cons .avail .head) (w .cons .avail .wrap))
-
--- ---- a call given what is not the end's own: the world in which it is
-
-abbrev pub astrayIn : World → Foreign → World
-astrayIn w (producers p r s k c) = record { prod = p; ids = s; counts = k; cons = w .cons; heldCounts = w .heldCounts; ring = r }
-astrayIn w (consumers p r k c) = record { prod = w .prod; ids = w .ids; counts = w .counts; cons = p; heldCounts = k; ring = r }
-
-abbrev pub callOf : Foreign → Own
-callOf (producers p r s k c) = c
-callOf (consumers p r k c) = c
-
--- its number: 0 unless it is refused
-abbrev pub numberOfLook : said.Look Checkpoint → ℕ
-numberOfLook (said.nexted i) = 0
-numberOfLook (said.peeked b) = 0
-numberOfLook said.quiet = 0
-numberOfLook (said.refused c g n) = n
-numberOfLook (said.astray n) = n
-
-abbrev pub numberOf : Event Checkpoint → ℕ
-numberOf (said.submitted x) = 0
-numberOf (said.polled x) = 0
-numberOf (said.completed d) = 0
-numberOf (said.reclaimed d) = 0
-numberOf (said.marked c) = 0
-numberOf (said.rolled c js) = 0
-numberOf (said.looked l) = numberOfLook l
-
--- any call. Behind a foreign one the end gets its own last again: the world is as it was. What the call was given it has left as it was, too
--- (packed/proofs/Astray.antt, `astray-leaves`).
-unfoldable pub says : World → Call → Event Checkpoint
-says w (own c) = ownSays w c
-says w (foreign f) = said.looked (said.astray (numberOf (ownSays (astrayIn w f) (callOf f))))
-
-unfoldable pub leaves : World → Call → World
-leaves w (own c) = ownLeaves w c
-leaves w (foreign f) = w
-
--- a call with arguments of their types
-pub record Given : Type 0 where
-  pub call : Call
-  pub typed : TypedCall call
-
--- the machine: what a call says and leaves is what the contracts' definitions give
-abbrev pub packed : Machine Checkpoint
-packed = record { World = World; Call = Given; say = λ w c. says w (c .call); go = λ w c. leaves w (c .call) }
+abbrev pub packed : Ring
+packed =
+    record {
+      producer = producerDoes;
+      consumer = consumerDoes;
+      producerNew = λ g r i k.
+          let o = producerOpensOf g r i k in
+          record { number = o .answer .number; side = record { end = madeFresh.freshOf g; ids = o .ids; counts = o .counts } };
+      consumerNew = λ g r k.
+          let o = consumerOpensOf g r k in
+          record { number = o .answer .number; side = record { end = takenFresh.freshOf g; counts = o .counts } };
+    }

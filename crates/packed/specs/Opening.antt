@@ -1,67 +1,67 @@
--- "Take two fresh ends over one zeroed ring, any mix of their calls": two accepted openings, the world after them, and calls in it.
+-- "Take two fresh ends over one zeroed ring, any mix of their calls": two accepted openings, the world after them, calls in it, and demand 3 of a ring.
 use Prim.Native.Nat.{ℕ, _+_, _*_, _<_}
 use mathlib.Core.Path.{_≡_}
 use mathlib.Core.List.{List}
-use lib.ListN.{getD}
+use lib.ListN.{length, getD}
 use Rattle.layout.specs.declared.Layout.{Layout}
-use Rattle.layout.specs.Layout.{layout}
-use Rattle.producer.specs.Fresh as made
-use Rattle.consumer.specs.Fresh as taken
 use Rattle.consumer.specs.declared.Checkpoint.{Checkpoint}
 use Rattle.queue.specs.History.{History}
-use Rattle.queue.specs.Promise.{Undoes, Asked, Each}
-use Rattle.queue.specs.Machine.{worldOf, historyOf}
-use Rattle.packed.specs.Machine.{World, Given, packed}
+use Rattle.queue.specs.Promise.{Rules, plain}
+use Rattle.queue.specs.Machine.{Machine, worldOf, historyOf}
+use Rattle.queue.specs.Demand.{Premise, Demand3}
+use Rattle.packed.specs.Calls.{Given}
+use Rattle.packed.specs.Machine.{World, Ring, ProducerOpens, ConsumerOpens, machineOf}
 
--- what the two `new` are given, the producer's two tables and the consumer's one among it. Both openings are accepted: any geometry that they
--- take, in bytes of any length, with tables of any first contents and any length that they take. "Over one zeroed ring": the descriptor table is
--- zero. A zeroed ring is so; that its event areas and all other bytes are zero too is not asked, since no sentence of demand 3 speaks of
--- notifications
-pub record Opening : Type 0 where
-  pub size : ℕ
-  pub table : ℕ
-  pub driver : ℕ
-  pub device : ℕ
-  pub ring : List ℕ
-  pub ids : List ℕ
-  pub counts : List ℕ
-  pub heldCounts : List ℕ
-  pub producer : made.openOf size table driver device ring ids counts .answer .number ≡ 0
-  pub consumer : taken.openOf size table driver device ring heldCounts .answer .number ≡ 0
-  pub zeroed : (k : ℕ) → k < size * 16 → getD ring (table + k) 0 ≡ 0
+module _ (R : Ring) where
+  -- what the two `new` are given. Both are accepted: any geometry that they take, with tables of any first contents and any length that they take.
+  -- "Over one zeroed ring": the descriptor table is zero at first (a zeroed ring is so; that other bytes are zero is not asked). An end may be opened
+  -- when the other has already written: of the bytes that its `new` finds, only the length is asked
+  pub record Opening : Type 0 where
+    pub geometry : Layout
+    pub ring : List ℕ
+    pub zeroed : (k : ℕ) → k < geometry .size * 16 → getD ring (geometry .table + k) 0 ≡ 0
+    -- the producer's two tables, and the consumer's one
+    pub ids : List ℕ
+    pub counts : List ℕ
+    pub heldCounts : List ℕ
+    pub producerFinds : List ℕ
+    pub consumerFinds : List ℕ
+    pub producer-length : length producerFinds ≡ length ring
+    pub consumer-length : length consumerFinds ≡ length ring
+    pub producer : R .producerNew geometry producerFinds ids counts .number ≡ 0
+    pub consumer : R .consumerNew geometry consumerFinds heldCounts .number ≡ 0
 
-abbrev pub layoutOf : Opening → Layout
-layoutOf o = layout (o .size) (o .table) (o .driver) (o .device)
+  -- what its two openings answered and left
+  abbrev pub producerOpened : Opening → ProducerOpens
+  producerOpened o = R .producerNew (o .geometry) (o .producerFinds) (o .ids) (o .counts)
 
--- what its two openings answered and left
-abbrev pub producerOpens : Opening → made.Open
-producerOpens o = made.openOf (o .size) (o .table) (o .driver) (o .device) (o .ring) (o .ids) (o .counts)
+  abbrev pub consumerOpened : Opening → ConsumerOpens
+  consumerOpened o = R .consumerNew (o .geometry) (o .consumerFinds) (o .heldCounts)
 
-abbrev pub consumerOpens : Opening → taken.Open
-consumerOpens o = taken.openOf (o .size) (o .table) (o .driver) (o .device) (o .ring) (o .heldCounts)
+  -- each end has the record that its opening answered and the tables as it left them
+  abbrev pub openedWorld : Opening → World
+  openedWorld o = record { producer = producerOpened o .side; consumer = consumerOpened o .side; ring = o .ring }
 
--- each end has the record that its opening answered (the fresh one of that geometry) and the tables as it left them
-abbrev pub openedWorld : Opening → World
-openedWorld o =
-    record {
-      prod = made.freshOf (layoutOf o);
-      ids = producerOpens o .ids;
-      counts = producerOpens o .counts;
-      cons = taken.freshOf (layoutOf o);
-      heldCounts = consumerOpens o .counts;
-      ring = o .ring;
-    }
+  -- the machine and the rules of a ring opened so
+  abbrev pub machine : Opening → Machine Checkpoint
+  machine o = machineOf R (o .geometry .size)
 
--- "Take two fresh ends over one zeroed ring, any mix of their calls ..": an opening, a list of calls, THE LATEST FIRST, and the premise on the
--- rollbacks that were accepted among them
-pub record Run : Type 0 where
-  pub opening : Opening
-  pub calls : List Given
-  pub premise : Each (Asked Undoes) (historyOf packed (openedWorld opening) calls)
+  abbrev pub rules : Opening → Rules Checkpoint
+  rules o = plain (o .geometry .size)
 
--- what its calls said, and the world after them
-abbrev pub historyIn : Run → History Checkpoint
-historyIn r = historyOf packed (openedWorld (r .opening)) (r .calls)
+  -- "Take two fresh ends over one zeroed ring, any mix of their calls ..": an opening, a list of calls, THE LATEST FIRST, and what is asked of them
+  pub record Run : Type 0 where
+    pub opening : Opening
+    pub calls : List Given
+    pub premise : Premise (machine opening) (rules opening) (openedWorld opening) calls
 
-abbrev pub worldIn : Run → World
-worldIn r = worldOf packed (openedWorld (r .opening)) (r .calls)
+  -- what its calls said, and the world after them
+  abbrev pub historyIn : Run → History Checkpoint
+  historyIn r = historyOf (machine (r .opening)) (openedWorld (r .opening)) (r .calls)
+
+  abbrev pub worldIn : Run → World
+  worldIn r = worldOf (machine (r .opening)) (openedWorld (r .opening)) (r .calls)
+
+  -- DEMAND 3 of a ring: of every run of it
+  abbrev pub Demand : Type 0
+  Demand = (r : Run) → Demand3 (machine (r .opening)) (rules (r .opening)) (openedWorld (r .opening)) (r .calls)
