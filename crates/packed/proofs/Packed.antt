@@ -6,6 +6,7 @@ use mathlib.Core.Path.{_≡_, refl, sym, ap, _∙_, subst}
 use mathlib.Core.Bool.{false}
 use mathlib.Core.List.{List, []}
 use lib.Dec.{T}
+use lib.ListN.{drop}
 use Rattle.layout.specs.declared.Layout.{Layout}
 use Rattle.layout.specs.Layout.{badLayout}
 use Rattle.consumer.specs.declared.Checkpoint.{Checkpoint}
@@ -15,7 +16,7 @@ use Rattle.queue.specs.Promise.{Undoes, plain, forHanded, MayFollow}
 use Rattle.queue.specs.Machine.{numberOf, OfKind}
 use Rattle.queue.proofs.Model.{Queue, model, next, Undo, AllOk}
 use Rattle.queue.proofs.Trace.{undo-of, undo-all-of}
-use Rattle.queue.proofs.Machine.{Matches, matched, demanded}
+use Rattle.queue.proofs.Machine.{Matches, matched, demanded, premise-drop}
 use Rattle.queue.proofs.Says.{says-number, says-kind}
 use Rattle.packed.specs.Calls.{ProducerCall, ConsumerCall, Own, Call, Given, TypedProducer, TypedConsumer, TypedCall, oneOf, requestOf}
 use Rattle.packed.specs.Calls.{submitAvailable, submitAvailableWithNotify, submitOne, submitOneWithNotify, pollUsed, nextId}
@@ -143,3 +144,12 @@ pub size-stays :
 size-stays r =
     let m = like-queue r .1 in
     (ap (λ (x : Layout). x .size) (m .p-layout), ap (λ (x : Layout). x .size) (m .c-layout))
+
+-- a run without its last n calls is a run
+abbrev pub begun : ℕ → Run packed → Run packed
+begun n r =
+    record {
+      opening = r .opening;
+      calls = drop n (r .calls);
+      premise = premise-drop (machine packed (r .opening)) (rules packed (r .opening)) (openedWorld packed (r .opening)) n (r .calls) (r .premise);
+    }

@@ -1,12 +1,12 @@
 -- What a ring owes to the queue, call by call, and what it gets for it: demand 3. A ring is any machine that takes calls.
 -- Assumes nothing.
-use Prim.Native.Nat.{ℕ}
-use mathlib.Core.Path.{_≡_, sym, ap, subst}
+use Prim.Native.Nat.{ℕ, zero, suc}
+use mathlib.Core.Path.{_≡_, refl, subst}
 use mathlib.Core.Logic.{⊎-elim}
 use mathlib.Core.Bool.{Bool, true, false, not}
 use mathlib.Core.List.{List, [], _∷_, _++_}
-use native.Mathlib.Omega.{arith}
 use lib.Dec.{T}
+use lib.ListN.{drop}
 use Rattle.queue.specs.History.{Kind, Event, History, pubs}
 use Rattle.queue.specs.History.{submit, reclaim, nextId, poll, complete, peek, checkpoint, rollback, other, foreign, refused, unchanged}
 use Rattle.queue.specs.Promise.{Undoes, Rules, forHanded, Each, MayFollow, Refusal, Right}
@@ -55,6 +55,19 @@ module _ {C : Type 0} (M : Machine C) (rules : Rules C) (w : M .World) where
   unfolding historyOf
   premise-before [] before p = p
   premise-before (c ∷ later) before p = premise-before later before (record { fair = p .fair .0; rollbacks = p .rollbacks .0 })
+
+  -- a run without its last n calls is a run, and said the first of what was said
+  pub premise-drop : (n : ℕ) (cs : List (M .Call)) → Premise M rules w cs → Premise M rules w (drop n cs)
+  unfolding historyOf
+  premise-drop zero cs p = p
+  premise-drop (suc n) [] p = p
+  premise-drop (suc n) (c ∷ cs) p = premise-drop n cs (record { fair = p .fair .0; rollbacks = p .rollbacks .0 })
+
+  pub history-drop : (n : ℕ) (cs : List (M .Call)) → historyOf M w (drop n cs) ≡ drop n (historyOf M w cs)
+  unfolding historyOf
+  history-drop zero cs = refl
+  history-drop (suc n) [] = refl
+  history-drop (suc n) (c ∷ cs) = history-drop n cs
 
   -- what a ring owes: a likeness to the queue that every fair call keeps, and an answer that the queue allows, of the call's kind; and a call that is
   -- refused for what it was handed leaves all that it was lent
