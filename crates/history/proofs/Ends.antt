@@ -36,8 +36,8 @@ geometryOf n = layout n 0 (n * 16) (n * 16 + 4)
 -- both openings of this ring are accepted so
 abbrev pub Accepted : Ring → ℕ → Type 0
 Accepted R n =
-    (R .producerNew (geometryOf n) (zeros (n * 16 + 8)) (zeros n) (zeros n) .number ≡ 0)
-    × (R .consumerNew (geometryOf n) (zeros (n * 16 + 8)) (zeros n) .number ≡ 0)
+    (R .producerNew (geometryOf n) (zeros (n * 16 + 8)) (zeros n) (zeros n) .answer .number ≡ 0)
+    × (R .consumerNew (geometryOf n) (zeros (n * 16 + 8)) (zeros n) .answer .number ≡ 0)
 
 abbrev pub over-zeros : (R : Ring) (n : ℕ) → Accepted R n → Opening R
 over-zeros R n a =

@@ -15,3 +15,5 @@ pub mod First
 pub mod Refused
 pub mod Valid
 pub mod Packed
+pub mod Tied
+pub mod Real

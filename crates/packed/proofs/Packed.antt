@@ -24,8 +24,8 @@ use Rattle.packed.specs.Calls.{producerAsked, shouldNotifySince, turnUse
 use Rattle.packed.specs.Calls.{pollAvailable, submitUsed, submitUsedWithNotify, peekAvailable, pollCheckpoint, rollbackPolls}
 use Rattle.packed.specs.Calls.{consumerAsked, turnAvail, enableAvailDesc, enableAvailForNext, consumerReset}
 use Rattle.packed.specs.Calls.{byProducer, byConsumer, own, foreign}
-use Rattle.packed.specs.Machine.{World, Lendings, checkpointIn, producerValues, consumerValues, packed, fair, callSays, leaves, givenIn}
-use Rattle.packed.specs.Machine.{ownAnswer, ownEntry, ownExit, foreignNumber, callEntry, callExit, producerDoes, consumerDoes}
+use Rattle.packed.specs.Machine.{World, checkpointIn, producerValues, consumerValues, packed, FairCall, callSays, leaves, givenIn, placeOf}
+use Rattle.packed.specs.Machine.{ownAnswer, ownExit, callAnswer, callEntry, callExit, producerDoes, consumerDoes}
 use Rattle.packed.specs.Opening.{Opening, openedWorld, machine, rules, Run, historyIn, worldIn, Demand}
 use Rattle.packed.proofs.Invariant.{Match, Good, GoodAfter, like-unchanged}
 use Rattle.packed.proofs.Polls.{poll-good, peek-good}
@@ -46,7 +46,7 @@ module _ (l : Layout) (good : badLayout l ≡ false) where
 
   -- what is owed of a call that is fair, in a world that is like the queue
   producer-good :
-      (w : World) (q : Queue Checkpoint) (c : ProducerCall) → TypedProducer c → Match l w q → fair packed w (own (byProducer c))
+      (w : World) (q : Queue Checkpoint) (c : ProducerCall) → TypedProducer c → Match l w q → FairCall (own (byProducer c)) (ownAnswer packed w (byProducer c) .number)
       → Good l q (callSays packed size w (own (byProducer c))) (leaves packed w (own (byProducer c)))
   unfolding callSays leaves producerDoes
   producer-good w q (submitAvailable c) t m f = submits.submit-good l good (m .0) w q (m .1) c t
@@ -68,7 +68,7 @@ module _ (l : Layout) (good : badLayout l ≡ false) where
     after-any e w g = (g .0 h, g .1)
 
     consumer-good :
-        (w : World) (c : ConsumerCall) → TypedConsumer c → Match l w (model h) → fair packed w (own (byConsumer c))
+        (w : World) (c : ConsumerCall) → TypedConsumer c → Match l w (model h) → FairCall (own (byConsumer c)) (ownAnswer packed w (byConsumer c) .number)
         → MayFollow (plain size) h (callSays packed size w (own (byConsumer c)))
         → GoodAfter l h (model h) (callSays packed size w (own (byConsumer c))) (leaves packed w (own (byConsumer c)))
     unfolding callSays leaves consumerDoes
@@ -87,27 +87,29 @@ module _ (l : Layout) (good : badLayout l ≡ false) where
         after-any _ _ (arm-avail-good l good (m .0) w (model h) (m .1) (w .consumer .end .avail .head) (w .consumer .end .avail .wrap))
     consumer-good w consumerReset t m f p = absurd (f (consumer-reset-goes l good (m .0) w (model h) (m .1)))
 
-    call-good :
-        (w : World) (c : Call) → TypedCall c → Match l w (model h) → fair packed w c → MayFollow (plain size) h (callSays packed size w c)
+    pub call-good :
+        (w : World) (c : Call) → TypedCall c → Match l w (model h) → FairCall c (callAnswer packed (placeOf w c) c .number) → MayFollow (plain size) h (callSays packed size w c)
         → GoodAfter l h (model h) (callSays packed size w c) (leaves packed w c)
     unfolding callSays
     call-good w (own (byProducer c)) t m f p = after-any _ _ (producer-good w (model h) c t m f)
     call-good w (own (byConsumer c)) t m f p = consumer-good w c t m f p
     call-good w (foreign x) t m f p =
-        let n = foreignNumber packed (givenIn w x) x in
-        let e : Event Checkpoint = said.unchanged (said.foreignAnswered n) in
-        (tt, subst (λ (v : World). Match l v (next (model h) e)) (sym (foreign-leaves w x f))
-        (m .0, like-unchanged l good (m .0) w (model h) (m .1) (said.foreignAnswered n) (m .1 .promise)))
+        let n = callAnswer packed (givenIn w x) (foreign x) .number in
+        let e : Event Checkpoint = said.unchanged (said.foreignAnswered n) in (
+          tt,
+          subst (λ (v : World). Match l v (next (model h) e)) (sym (foreign-leaves w x f))
+              (m .0, like-unchanged l good (m .0) w (model h) (m .1) (said.foreignAnswered n) (m .1 .promise)),
+        )
 
   -- every call is answered in its own kind
-  call-kind : (w : World) (q : Queue Checkpoint) (c : Call) → Match l w q → OfKind (requestOf size c) (callSays packed size w c)
+  pub call-kind : (w : World) (q : Queue Checkpoint) (c : Call) → Match l w q → OfKind (requestOf size c) (callSays packed size w c)
   unfolding callSays
   call-kind w q (own c) m =
       says-kind checkpointIn (requestOf size (own c)) (ownAnswer packed w c) (ownExit packed w c .addrs) (ownExit packed w c .lens) (own-valid l good (m .0) w q (m .1) c)
   call-kind w q (foreign x) m = refl
 
 -- a call that is refused for what it was handed leaves all that it was lent
-call-kept : (size : ℕ) (w : World) (c : Call) → T (forHanded (numberOf (callSays packed size w c))) → callExit packed w c ≡ callEntry packed w c
+pub call-kept : (size : ℕ) (w : World) (c : Call) → T (forHanded (numberOf (callSays packed size w c))) → callExit packed (placeOf w c) c ≡ callEntry (placeOf w c) c
 unfolding callSays
 call-kept size w (own c) t =
     own-kept w c (not-success _ (subst (λ (n : ℕ). T (forHanded n))

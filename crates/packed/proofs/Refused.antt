@@ -49,7 +49,7 @@ use Rattle.packed.specs.Calls.{pollAvailable, submitUsed, submitUsedWith
 use Rattle.packed.specs.Calls.{consumerAsked, turnAvail, enableAvailDesc, enableAvailForNext, consumerReset}
 use Rattle.packed.specs.Calls.{its, another, byProducer, byConsumer, toProducer, toConsumer, newProducer, newConsumer, foreign}
 use Rattle.packed.specs.Machine.{World, Lendings, given, kept, lendings, afterProducer, afterConsumer, givenIn, keptIn, leaves, packed}
-use Rattle.packed.specs.Machine.{ownAnswer, ownEntry, ownExit, foreignNumber, foreignEntry, foreignExit}
+use Rattle.packed.specs.Machine.{ownAnswer, ownEntry, ownExit, callAnswer, callEntry, callExit}
 use Rattle.packed.specs.Machine.{submitsOf, tellsOf, reclaimsOf, pollsOf, completesOf, completesTold, rollsOf, producerOpensOf, consumerOpensOf}
 use Rattle.packed.specs.Machine.{producerDoes, consumerDoes}
 use Rattle.packed.proofs.Answers.{afterMade, afterUsedTurn, afterCompleted, afterRolled, afterAvailTurn, afterTaken}
@@ -160,7 +160,7 @@ module _ (w : World) where
   no-outputs v = lendings v [] []
 
   -- any call, given anything: where it is refused, nothing that it was lent differs
-  producer-kept : (c : ProducerCall) → (ownAnswer packed w (byProducer c) .number ≡ 0 → ⊥) → ownExit packed w (byProducer c) ≡ ownEntry packed w (byProducer c)
+  producer-kept : (c : ProducerCall) → (ownAnswer packed w (byProducer c) .number ≡ 0 → ⊥) → ownExit packed w (byProducer c) ≡ ownEntry w (byProducer c)
   unfolding producerDoes
   producer-kept (submitAvailable c) h = ap no-outputs (submit-kept c h)
   producer-kept (submitAvailableWithNotify c) h = ap no-outputs (tell-kept c h)
@@ -175,7 +175,7 @@ module _ (w : World) where
   producer-kept enableUsedForNext h = ap no-outputs (notice-used-kept DESC _ h)
   producer-kept producerReset h = ap no-outputs (producer-reset-kept h)
 
-  consumer-kept : (c : ConsumerCall) → (ownAnswer packed w (byConsumer c) .number ≡ 0 → ⊥) → ownExit packed w (byConsumer c) ≡ ownEntry packed w (byConsumer c)
+  consumer-kept : (c : ConsumerCall) → (ownAnswer packed w (byConsumer c) .number ≡ 0 → ⊥) → ownExit packed w (byConsumer c) ≡ ownEntry w (byConsumer c)
   unfolding consumerDoes
   consumer-kept (pollAvailable a b) h = poll-kept a b h
   consumer-kept (submitUsed i n) h = ap no-outputs (complete-kept i n h)
@@ -189,7 +189,7 @@ module _ (w : World) where
   consumer-kept enableAvailForNext h = ap no-outputs (notice-avail-kept DESC _ h)
   consumer-kept consumerReset h = ap no-outputs (consumer-reset-kept h)
 
-  pub own-kept : (c : Own) → (ownAnswer packed w c .number ≡ 0 → ⊥) → ownExit packed w c ≡ ownEntry packed w c
+  pub own-kept : (c : Own) → (ownAnswer packed w c .number ≡ 0 → ⊥) → ownExit packed w c ≡ ownEntry w c
   own-kept (byProducer c) h = producer-kept c h
   own-kept (byConsumer c) h = consumer-kept c h
 
@@ -225,7 +225,7 @@ not-success n t e = subst (λ (m : ℕ). T (forHanded m)) e t
 
 -- "Calls refused for bad records or buffers aren't counted": a call given a foreign record, tables or bytes, or an opening, and refused for it leaves
 -- all that it was given as it was
-pub foreign-kept : (v : World) (f : Foreign) → T (forHanded (foreignNumber packed v f)) → foreignExit packed v f ≡ foreignEntry packed v f
+pub foreign-kept : (v : World) (f : Foreign) → T (forHanded (callAnswer packed v (foreign f) .number)) → callExit packed v (foreign f) ≡ callEntry v (foreign f)
 foreign-kept v (toProducer l b c) t = own-kept v (byProducer c) (not-success _ t)
 foreign-kept v (toConsumer l b c) t = own-kept v (byConsumer c) (not-success _ t)
 foreign-kept v (newProducer g i k b) t =
@@ -263,13 +263,13 @@ kept-in-given w (newProducer g i k b) =
 kept-in-given w (newConsumer g k b) =
     λ j. afterConsumer w (record { end = w .consumer .end; counts = kept-given k (w .consumer .counts) j }) (kept-given b (w .ring) j)
 
-entry-world : (v : World) (f : Foreign) → foreignEntry packed v f .world ≡ v
+entry-world : (v : World) (f : Foreign) → callEntry v (foreign f) .world ≡ v
 entry-world v (toProducer l b c) = refl
 entry-world v (toConsumer l b c) = refl
 entry-world v (newProducer g i k b) = refl
 entry-world v (newConsumer g k b) = refl
 
-pub foreign-leaves : (w : World) (f : Foreign) → T (forHanded (foreignNumber packed (givenIn w f) f)) → leaves packed w (foreign f) ≡ w
+pub foreign-leaves : (w : World) (f : Foreign) → T (forHanded (callAnswer packed (givenIn w f) (foreign f) .number)) → leaves packed w (foreign f) ≡ w
 unfolding leaves
 foreign-leaves w f t =
     ap (λ (x : Lendings). keptIn w f (x .world)) (foreign-kept (givenIn w f) f t) ∙ ap (keptIn w f) (entry-world (givenIn w f) f) ∙ kept-in-given w f

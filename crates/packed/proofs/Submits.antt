@@ -51,7 +51,6 @@ module _ (l : Layout) (laid-out : badLayout l ≡ false) where
     abbrev n : ℕ
     n = length (c .addrs)
 
-
     -- a refused submission leaves the world as it was
     submit-no :
         (m : ℕ) (g : Bool) → 0 < m → submitRefusal (w .producer .end) (length (w .ring)) (w .producer .ids) (w .producer .counts) n (length (c .lens)) (c .readable) ≡ m → validChain c ≡ g

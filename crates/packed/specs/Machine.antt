@@ -74,13 +74,13 @@ pub record ConsumerLeaves : Type 0 where
   pub addrs : List ℕ
   pub lens : List ℕ
 
--- of an opening: its number, the record that it answers (where the number is 0), and its tables
+-- of an opening: its answer, the record that it hands back (where it is accepted), and its tables
 pub record ProducerOpens : Type 0 where
-  pub number : ℕ
+  pub answer : Answer
   pub side : ProducerSide
 
 pub record ConsumerOpens : Type 0 where
-  pub number : ℕ
+  pub answer : Answer
   pub side : ConsumerSide
 
 pub record Ring : Type 0 where
@@ -215,85 +215,94 @@ FairConsumer (enableAvailDesc o b) n = Unit
 FairConsumer enableAvailForNext n = Unit
 FairConsumer consumerReset n = n ≡ 0 → ⊥
 
-module _ (R : Ring) where
-  -- a call by an end given its own: its answer, and all that it was lent when it returns
-  abbrev pub ownAnswer : World → Own → Answer
-  ownAnswer w (byProducer c) = R .producer c (w .producer) (w .ring) .answer
-  ownAnswer w (byConsumer c) = R .consumer c (w .consumer) (w .ring) .answer
+-- ---- the same of any call
 
-  abbrev pub ownEntry : World → Own → Lendings
-  ownEntry w (byProducer c) = lendings w [] []
-  ownEntry w (byConsumer c) = lendings w (addrsLent c) (lensLent c)
+-- where a call is made: for a foreign one, the world with the other things in their places
+abbrev pub placeOf : World → Call → World
+placeOf w (own c) = w
+placeOf w (foreign f) = givenIn w f
+
+-- the world after it, if it left v there: each end has its own as the call left it
+abbrev pub keptOf : World → Call → World → World
+keptOf w (own c) v = v
+keptOf w (foreign f) v = keptIn w f v
+
+-- what is fair: no reset that is accepted, and no call given what is not the end's own but one that is refused for it
+abbrev pub FairCall : Call → ℕ → Type 0
+FairCall (own (byProducer c)) n = FairProducer c n
+FairCall (own (byConsumer c)) n = FairConsumer c n
+FairCall (foreign f) n = T (forHanded n)
+
+-- the call with its answer; what a poll gave is read from its outputs at exit
+abbrev pub saysOf : ℕ → Call → Answer → List ℕ → List ℕ → Event Checkpoint
+saysOf size (own c) a addrs lens = says checkpointIn (requestOf size (own c)) a addrs lens
+saysOf size (foreign f) a addrs lens = said.unchanged (said.foreignAnswered (a .number))
+
+-- all that a call is lent, in its place
+abbrev pub ownEntry : World → Own → Lendings
+ownEntry v (byProducer c) = lendings v [] []
+ownEntry v (byConsumer c) = lendings v (addrsLent c) (lensLent c)
+
+abbrev pub callEntry : World → Call → Lendings
+callEntry v (own c) = ownEntry v c
+callEntry v (foreign (toProducer l b c)) = ownEntry v (byProducer c)
+callEntry v (foreign (toConsumer l b c)) = ownEntry v (byConsumer c)
+callEntry v (foreign (newProducer g i k b)) = lendings v [] []
+callEntry v (foreign (newConsumer g k b)) = lendings v [] []
+
+module _ (R : Ring) where
+  -- what a call answers in its place, and all that it was lent when it returns
+  abbrev pub ownAnswer : World → Own → Answer
+  ownAnswer v (byProducer c) = R .producer c (v .producer) (v .ring) .answer
+  ownAnswer v (byConsumer c) = R .consumer c (v .consumer) (v .ring) .answer
+
+  abbrev pub callAnswer : World → Call → Answer
+  callAnswer v (own c) = ownAnswer v c
+  callAnswer v (foreign (toProducer l b c)) = ownAnswer v (byProducer c)
+  callAnswer v (foreign (toConsumer l b c)) = ownAnswer v (byConsumer c)
+  callAnswer v (foreign (newProducer g i k b)) = R .producerNew g (v .ring) (v .producer .ids) (v .producer .counts) .answer
+  callAnswer v (foreign (newConsumer g k b)) = R .consumerNew g (v .ring) (v .consumer .counts) .answer
 
   abbrev pub ownExit : World → Own → Lendings
-  ownExit w (byProducer c) =
-      let o = R .producer c (w .producer) (w .ring) in
-      lendings (afterProducer w (o .side) (o .ring)) [] []
-  ownExit w (byConsumer c) =
-      let o = R .consumer c (w .consumer) (w .ring) in
-      lendings (afterConsumer w (o .side) (o .ring)) (o .addrs) (o .lens)
+  ownExit v (byProducer c) =
+      let o = R .producer c (v .producer) (v .ring) in
+      lendings (afterProducer v (o .side) (o .ring)) [] []
+  ownExit v (byConsumer c) =
+      let o = R .consumer c (v .consumer) (v .ring) in
+      lendings (afterConsumer v (o .side) (o .ring)) (o .addrs) (o .lens)
 
-  -- a foreign one, in the world that it is given
-  abbrev pub foreignNumber : World → Foreign → ℕ
-  foreignNumber v (toProducer l b c) = ownAnswer v (byProducer c) .number
-  foreignNumber v (toConsumer l b c) = ownAnswer v (byConsumer c) .number
-  foreignNumber v (newProducer g i k b) = R .producerNew g (v .ring) (v .producer .ids) (v .producer .counts) .number
-  foreignNumber v (newConsumer g k b) = R .consumerNew g (v .ring) (v .consumer .counts) .number
-
-  abbrev pub foreignEntry : World → Foreign → Lendings
-  foreignEntry v (toProducer l b c) = ownEntry v (byProducer c)
-  foreignEntry v (toConsumer l b c) = ownEntry v (byConsumer c)
-  foreignEntry v (newProducer g i k b) = lendings v [] []
-  foreignEntry v (newConsumer g k b) = lendings v [] []
-
-  abbrev pub foreignExit : World → Foreign → Lendings
-  foreignExit v (toProducer l b c) = ownExit v (byProducer c)
-  foreignExit v (toConsumer l b c) = ownExit v (byConsumer c)
-  foreignExit v (newProducer g i k b) =
+  abbrev pub callExit : World → Call → Lendings
+  callExit v (own c) = ownExit v c
+  callExit v (foreign (toProducer l b c)) = ownExit v (byProducer c)
+  callExit v (foreign (toConsumer l b c)) = ownExit v (byConsumer c)
+  callExit v (foreign (newProducer g i k b)) =
       let o = R .producerNew g (v .ring) (v .producer .ids) (v .producer .counts) in
       lendings (afterProducer v (record { end = v .producer .end; ids = o .side .ids; counts = o .side .counts }) (v .ring)) [] []
-  foreignExit v (newConsumer g k b) =
+  callExit v (foreign (newConsumer g k b)) =
       let o = R .consumerNew g (v .ring) (v .consumer .counts) in
       lendings (afterConsumer v (record { end = v .consumer .end; counts = o .side .counts }) (v .ring)) [] []
 
-  abbrev pub callEntry : World → Call → Lendings
-  callEntry w (own c) = ownEntry w c
-  callEntry w (foreign f) = foreignEntry (givenIn w f) f
-
-  abbrev pub callExit : World → Call → Lendings
-  callExit w (own c) = ownExit w c
-  callExit w (foreign f) = foreignExit (givenIn w f) f
-
-  -- the world after a call: each end has its own as the call left it
+  -- the world after a call, and the call with its answer
   unfoldable pub leaves : World → Call → World
-  leaves w (own c) = ownExit w c .world
-  leaves w (foreign f) = keptIn w f (foreignExit (givenIn w f) f .world)
+  leaves w c = keptOf w c (callExit (placeOf w c) c .world)
 
-  -- what is fair: no reset that is accepted, and no call given what is not the end's own but one that is refused for it
-  abbrev pub fair : World → Call → Type 0
-  fair w (own (byProducer c)) = FairProducer c (ownAnswer w (byProducer c) .number)
-  fair w (own (byConsumer c)) = FairConsumer c (ownAnswer w (byConsumer c) .number)
-  fair w (foreign f) = T (forHanded (foreignNumber (givenIn w f) f))
+  unfoldable pub callSays : ℕ → World → Call → Event Checkpoint
+  callSays size w c = saysOf size c (callAnswer (placeOf w c) c) (callExit (placeOf w c) c .addrs) (callExit (placeOf w c) c .lens)
 
-  module _ (size : ℕ) where
-    -- the call with its answer; what a poll gave is read from its outputs at exit
-    unfoldable pub callSays : World → Call → Event Checkpoint
-    callSays w (own c) = says checkpointIn (requestOf size (own c)) (ownAnswer w c) (ownExit w c .addrs) (ownExit w c .lens)
-    callSays w (foreign f) = said.unchanged (said.foreignAnswered (foreignNumber (givenIn w f) f))
-
-    abbrev pub machineOf : Machine Checkpoint
-    machineOf =
-        record {
-          World = World;
-          Call = Given;
-          request = λ c. requestOf size (c .call);
-          Fair = λ w c. fair w (c .call);
-          say = λ w c. callSays w (c .call);
-          go = λ w c. leaves w (c .call);
-          Lent = Lendings;
-          entry = λ w c. callEntry w (c .call);
-          exit = λ w c. callExit w (c .call);
-        }
+  -- a ring of so many slots as a machine
+  abbrev pub machineOf : ℕ → Machine Checkpoint
+  machineOf size =
+      record {
+        World = World;
+        Call = Given;
+        request = λ c. requestOf size (c .call);
+        Fair = λ w c. FairCall (c .call) (callAnswer (placeOf w (c .call)) (c .call) .number);
+        say = λ w c. callSays size w (c .call);
+        go = λ w c. leaves w (c .call);
+        Lent = Lendings;
+        entry = λ w c. callEntry (placeOf w (c .call)) (c .call);
+        exit = λ w c. callExit (placeOf w (c .call)) (c .call);
+      }
 
 -- ---- the packed ring: each call is the definition that its contract cites
 
@@ -411,8 +420,8 @@ packed =
       consumer = consumerDoes;
       producerNew = λ g r i k.
           let o = producerOpensOf g r i k in
-          record { number = o .answer .number; side = record { end = madeFresh.freshOf g; ids = o .ids; counts = o .counts } };
+          record { answer = o .answer; side = record { end = madeFresh.freshOf g; ids = o .ids; counts = o .counts } };
       consumerNew = λ g r k.
           let o = consumerOpensOf g r k in
-          record { number = o .answer .number; side = record { end = takenFresh.freshOf g; counts = o .counts } };
+          record { answer = o .answer; side = record { end = takenFresh.freshOf g; counts = o .counts } };
     }

@@ -28,8 +28,8 @@ module _ (R : Ring) where
     pub consumerFinds : List ℕ
     pub producer-length : length producerFinds ≡ length ring
     pub consumer-length : length consumerFinds ≡ length ring
-    pub producer : R .producerNew geometry producerFinds ids counts .number ≡ 0
-    pub consumer : R .consumerNew geometry consumerFinds heldCounts .number ≡ 0
+    pub producer : R .producerNew geometry producerFinds ids counts .answer .number ≡ 0
+    pub consumer : R .consumerNew geometry consumerFinds heldCounts .answer .number ≡ 0
 
   -- what its two openings answered and left
   abbrev pub producerOpened : Opening → ProducerOpens

@@ -1,0 +1,7 @@
+pub mod Ladder
+pub mod Geometry
+pub mod Opening
+pub mod Walk
+pub mod Polls
+pub mod Handed
+pub mod Examples

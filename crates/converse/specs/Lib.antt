@@ -1,0 +1,3 @@
+pub mod Geometry
+pub mod Chain
+pub mod Poll

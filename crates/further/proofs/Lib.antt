@@ -1,0 +1,4 @@
+pub mod Counted
+pub mod Reset
+pub mod Told
+pub mod Notified
