@@ -1,4 +1,4 @@
-pub mod Ring
+pub mod Changed
 pub mod Calls
 pub mod Refuses
 pub mod SameId
@@ -7,4 +7,8 @@ pub mod WrapLate
 pub mod NextOnLast
 pub mod Skips
 pub mod GivenAgain
+pub mod Grows
+pub mod Zeroes
+pub mod Silent
+pub mod Answers
 pub mod Wrong

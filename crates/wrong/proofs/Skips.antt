@@ -7,22 +7,21 @@ use native.Mathlib.Omega.{arith}
 use Rattle.cursor.specs.declared.RingCursor.{RingCursor}
 use Rattle.consumer.specs.declared.RingConsumer.{RingConsumer}
 use Rattle.consumer.specs.declared.Checkpoint.{Checkpoint}
-use Rattle.consumer.specs.Poll.{pollOf}
 use Rattle.queue.specs.History.{Item, Event, History, pubs, standing}
 use Rattle.queue.specs.History as said
-use Rattle.queue.specs.Promise.{Right}
-use Rattle.history.proofs.Ends.{item}
-use Rattle.wrong.proofs.Ring.{Ring, real, withPoll}
+use Rattle.queue.specs.Promise.{plain, Right}
+use Rattle.packed.specs.Machine.{Ring, packed}
+use Rattle.history.proofs.Ends.{two-accepted, item}
+use Rattle.wrong.proofs.Changed.{isPoll, withConsumer}
 use Rattle.wrong.proofs.Calls.{a, b, submit-a, submit-b, poll, computing, Broken, broken}
 
 -- a consumer whose avail cursor is there
 abbrev movedTo : RingConsumer → RingCursor → RingConsumer
 movedTo p c = record { layout = p .layout; avail = c; used = p .used; inflight = p .inflight; shadow = p .shadow }
 
--- THE WRONG RING: a poll is the real one from behind the chain that the real one would give
+-- THE WRONG RING: a poll is the real one from after the chain that the real one would give
 abbrev pub skips : Ring
-skips =
-    withPoll (λ w outs louts. pollOf (movedTo (w .cons) (real .poll w outs louts .end .avail)) (w .ring) (w .heldCounts) outs louts)
+skips = withConsumer isPoll (λ c s r o. packed .consumer c (record { end = movedTo (s .end) (o .side .end .avail); counts = s .counts }) r)
 
 -- two chains are submitted, and the poll gives the second
 abbrev two-wait : History Checkpoint
@@ -36,10 +35,10 @@ abbrev firstId : List Item → ℕ
 firstId [] = 0
 firstId (x ∷ l) = x .id
 
-not-oldest : Right 2 two-wait second → ⊥
+not-oldest : Right (plain 2) two-wait second → ⊥
 unfolding pubs standing
 not-oldest f = omega (arith, ap (λ (l : List Item). firstId l) (f .1))
 
 pub skips-broken : Broken skips
 unfolding computing
-skips-broken = broken skips poll (submit-b ∷ submit-a ∷ []) two-wait second tt refl refl not-oldest
+skips-broken = broken skips two-accepted poll (submit-b ∷ submit-a ∷ []) two-wait second tt tt tt tt refl refl not-oldest
