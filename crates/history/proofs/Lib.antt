@@ -1,2 +1,13 @@
 pub mod Computing
 pub mod Ends
+pub mod Run
+pub mod Left
+pub mod Points
+pub mod Applied
+pub mod Shown
+pub mod Counts
+pub mod Without
+pub mod Unfair
+pub mod Again
+pub mod Notified
+pub mod RealCalls

@@ -12,9 +12,10 @@ use Rattle.layout.specs.Layout.{badLayout}
 use Rattle.consumer.specs.declared.Checkpoint.{Checkpoint}
 use Rattle.queue.specs.History.{Event, History}
 use Rattle.queue.specs.History as said
-use Rattle.queue.specs.Promise.{Undoes, plain, forHanded, MayFollow}
+use Rattle.queue.specs.Promise.{plain, forHanded, MayFollow}
 use Rattle.queue.specs.Machine.{numberOf, OfKind}
-use Rattle.queue.proofs.Model.{Queue, model, next, Undo, AllOk}
+use Rattle.queue.specs.Demand.{Premise, Demand3}
+use Rattle.queue.proofs.Model.{Queue, start, model, next, AllOk}
 use Rattle.queue.proofs.Trace.{undo-of, undo-all-of}
 use Rattle.queue.proofs.Machine.{Matches, matched, demanded, premise-drop}
 use Rattle.queue.proofs.Says.{says-number, says-kind}
@@ -24,7 +25,7 @@ use Rattle.packed.specs.Calls.{producerAsked, shouldNotifySince, turnUse
 use Rattle.packed.specs.Calls.{pollAvailable, submitUsed, submitUsedWithNotify, peekAvailable, pollCheckpoint, rollbackPolls}
 use Rattle.packed.specs.Calls.{consumerAsked, turnAvail, enableAvailDesc, enableAvailForNext, consumerReset}
 use Rattle.packed.specs.Calls.{byProducer, byConsumer, own, foreign}
-use Rattle.packed.specs.Machine.{World, checkpointIn, producerValues, consumerValues, packed, FairCall, callSays, leaves, givenIn, placeOf}
+use Rattle.packed.specs.Machine.{World, checkpointIn, producerValues, consumerValues, packed, machineOf, FairCall, callSays, leaves, givenIn, placeOf}
 use Rattle.packed.specs.Machine.{ownAnswer, ownExit, callAnswer, callEntry, callExit, producerDoes, consumerDoes}
 use Rattle.packed.specs.Opening.{Opening, openedWorld, machine, rules, Run, historyIn, worldIn, Demand}
 use Rattle.packed.proofs.Invariant.{Match, Good, GoodAfter, like-unchanged}
@@ -118,26 +119,33 @@ call-kept size w (foreign x) t = foreign-kept (givenIn w x) x t
 
 -- ---- the promise
 
-matches : (o : Opening packed) → Matches (machine packed o) (rules packed o) (openedWorld packed o)
-matches o =
-    record {
-      Like = Match (o .geometry);
-      first = ([], first-like o);
-      step = λ h ok w c m f p. call-good (o .geometry) (laid-out o) h ok w (c .call) (c .typed) m f p;
-      kind = λ w q c m f. call-kind (o .geometry) (laid-out o) w q (c .call) m;
-      keeps = λ w c f t. call-kept (o .geometry .size) w (c .call) t;
-    }
+-- two ends that are like an empty queue, in a geometry that is taken: fresh ones are, and so is whatever keeps of an earlier run what no call looks at
+module _ (l : Layout) (good : badLayout l ≡ false) (w : World) (empty : Match l w start) where
+  matches : Matches (machineOf packed (l .size)) (plain (l .size)) w
+  matches =
+      record {
+        Like = Match l;
+        first = empty;
+        step = λ h ok v c m f p. call-good l good h ok v (c .call) (c .typed) m f p;
+        kind = λ v q c m f. call-kind l good v q (c .call) m;
+        keeps = λ v c f t. call-kept (l .size) v (c .call) t;
+      }
+
+  pub demand-3-from : (cs : List Given) → Premise (machineOf packed (l .size)) (plain (l .size)) w cs → Demand3 (machineOf packed (l .size)) (plain (l .size)) w cs
+  demand-3-from cs p = demanded (machineOf packed (l .size)) (plain (l .size)) w matches cs p
 
 -- "Take two fresh ends over one zeroed ring, any mix of their calls, no reset, no other writer, each end given back its own last record and
 -- tables, and each rollback using a checkpoint that its end took and undoing every poll since, with no completion between. Then ..": what
 -- `Demand3` says (queue/specs/Demand.antt), of every run
 pub demand-3 : Demand packed
-demand-3 r = demanded (machine packed (r .opening)) (rules packed (r .opening)) (openedWorld packed (r .opening)) (matches (r .opening)) (r .calls) (r .premise)
+demand-3 r = demand-3-from (r .opening .geometry) (laid-out (r .opening)) (openedWorld packed (r .opening)) ([], first-like (r .opening)) (r .calls) (r .premise)
 
 -- the invariant, at any point of a run
 pub like-queue : (r : Run packed) → Match (r .opening .geometry) (worldIn packed r) (model (historyIn packed r))
 unfolding matches
-like-queue r = matched (machine packed (r .opening)) (rules packed (r .opening)) (openedWorld packed (r .opening)) (matches (r .opening)) (r .calls) (r .premise) .1
+like-queue r =
+    let o = r .opening in
+    matched (machine packed o) (rules packed o) (openedWorld packed o) (matches (o .geometry) (laid-out o) (openedWorld packed o) ([], first-like o)) (r .calls) (r .premise) .1
 
 -- both records keep the size that was opened
 pub size-stays :

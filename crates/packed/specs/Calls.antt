@@ -91,8 +91,8 @@ pub record LentConsumer : Type 0 where
   pub end : Lent RingConsumer
   pub counts : Lent (List ℕ)
 
--- "Calls refused for bad records or buffers": a call of either end given any record, tables and bytes, some of them the end's own; and an opening with
--- any geometry, tables and bytes, some of them an end's
+-- "Calls refused for bad records or buffers": a call of either end given any record, tables and bytes, some of them the end's own; and an opening
+-- with any geometry, tables and bytes, some of them an end's
 pub data Foreign : Type 0 where
   toProducer : LentProducer → Lent (List ℕ) → ProducerCall → Foreign
   toConsumer : LentConsumer → Lent (List ℕ) → ConsumerCall → Foreign
@@ -110,7 +110,8 @@ pub data Call : Type 0 where
 abbrev pub oneOf : ℕ → ℕ → Bool → Chain
 oneOf addr len writable = record { addrs = addr ∷ []; lens = len ∷ []; readable = cond writable 0 1 }
 
--- a chain's slices are of equal length, with a readable count within it; both outputs have an entry for each slot; a checkpoint's heads are on the ring
+-- a chain's slices are of equal length, with a readable count within it; both outputs have an entry for each slot; a checkpoint's heads are on
+-- the ring
 abbrev pub validChain : Chain → Bool
 validChain c = not (badSlices (length (c .addrs)) (length (c .lens)) (c .readable))
 

@@ -3,8 +3,8 @@ use Prim.Native.Nat.{ℕ}
 use mathlib.Core.List.{List}
 use Rattle.queue.specs.History.{Chain}
 
--- its arguments when it was called, its result, its arguments when it returned, and that these meet the contract (`Post` is what the prover made of the
--- function's `ensures`)
+-- its arguments when it was called, its result, its arguments when it returned, and that these meet the contract (`Post` is what the prover made
+-- of the function's `ensures`)
 pub record Meets {K D R S : Type 0} (Post : K → D → R → S → Type 0) : Type 0 where
   pub lifetimes : K
   pub entry : D

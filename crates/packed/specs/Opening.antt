@@ -1,4 +1,5 @@
--- "Take two fresh ends over one zeroed ring, any mix of their calls": two accepted openings, the world after them, calls in it, and demand 3 of a ring.
+-- "Take two fresh ends over one zeroed ring, any mix of their calls": two accepted openings, the world after them, calls in it, and demand 3 of
+-- a ring.
 use Prim.Native.Nat.{ℕ, _+_, _*_, _<_}
 use mathlib.Core.Path.{_≡_}
 use mathlib.Core.List.{List}

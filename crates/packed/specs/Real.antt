@@ -1,6 +1,6 @@
--- Real calls: a machine whose calls are calls of the public functions of `producer` and `consumer`, each only known to meet the GENERATED contract of its
--- function, each end given back its own last record and tables. What such a call says and leaves is read off its own result and exit, and not off any
--- definition: so demand 3 of this machine (packed/proofs/Real.antt) is demand 3 of the functions.
+-- Real calls: a machine whose calls are calls of the public functions of `producer` and `consumer`, each only known to meet the GENERATED contract
+-- of its function, each end given back its own last record and tables. What such a call says and leaves is read off its own result and exit, and not
+-- off any definition: so demand 3 of this machine (packed/proofs/Real.antt) is demand 3 of the functions.
 use Prim.Native.Nat.{ℕ, _+_, _*_, _<_}
 use mathlib.Core.Path.{_≡_}
 use mathlib.Core.List.{List, [], _∷_}
@@ -24,8 +24,8 @@ use Rattle.queue.specs.Demand.{Premise}
 use Rattle.packed.specs.Meets.{Meets, first, second, third, fourth, fifth, sixth, seventh}
 use Rattle.packed.specs.Calls.{Lent, LentProducer, LentConsumer, Call, TypedCall, requestOf}
 use Rattle.packed.specs.Calls.{byProducer, byConsumer, toProducer, toConsumer, newProducer, newConsumer, own, foreign}
-use Rattle.packed.specs.Machine.{World, Lendings, lendings, addrsLent, lensLent, placeOf, keptOf, FairCall, saysOf, afterProducer, afterConsumer}
-use Rattle.packed.specs.Machine.{packed, callAnswer}
+use Rattle.packed.specs.Machine.{World, Lendings, lendings, addrsLent, lensLent, placeOf, keptOf, FairCall, saysOf}
+use Rattle.packed.specs.Machine.{afterProducer, afterConsumer, packed, callAnswer}
 use Rattle.packed.specs.Opening.{Run, historyIn, worldIn}
 use Rattle.packed.specs.RealProducer.{RealProducer}
 use Rattle.packed.specs.RealProducer as producer
@@ -160,7 +160,7 @@ realMachine size =
 
 -- ---- two fresh ends
 
--- a call of each `new` that handed a record back, with one geometry, over one zeroed ring; what each found in the bytes is not asked, but their length
+-- a call of each `new` that handed a record back, with one geometry, over one zeroed ring; of the bytes that each found only the length is asked
 pub record RealOpening : Type 0 where
   pub producerNew : ProducerNew
   pub consumerNew : ConsumerNew

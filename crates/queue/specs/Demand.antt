@@ -53,8 +53,8 @@ module _ {C : Type 0} (M : Machine C) (rules : Rules C) (w : M .World) (calls : 
         (front rest : List Done) (d : Done) (later between before : History C) (e : Event C) → h ≡ later ++ (e ∷ (between ++ before))
         → comps before ≡ reclaims before ++ (front ++ (d ∷ rest))
         → counted isReclaim between ≡ length front → T (isReclaim e) → e ≡ reclaimed d
-    -- "with their own ID and length": as a completion is returned it is of a submission p, which was published, polled and completed before, under the
-    -- ID that it got; and it is what the consumer completed it with
+    -- "with their own ID and length": as a completion is returned it is of a submission p, which was published, polled and completed before, under
+    -- the ID that it got; and it is what the consumer completed it with
     pub own-before : (d : Done) (later before : History C) → h ≡ later ++ (reclaimed d ∷ before) → (p : ℕ) × ItsOwnBefore before d p
     pub own : (j : ℕ) → j < length (reclaims h) → (p : ℕ) × (p < length (pubs h)) × ItsOwn h j p
     -- "once each": no two completions that were returned are of one submission
@@ -74,5 +74,6 @@ module _ {C : Type 0} (M : Machine C) (rules : Rules C) (w : M .World) (calls : 
     pub rollbacks :
         (c : C) (js : List ℕ) (later before : History C) → h ≡ later ++ (rolled c js ∷ before)
         → (u : Undoes before c js) × RolledBack before c js u
-    -- and every answer of every call: which submissions, completions and rollbacks are accepted, which IDs are given, what next_id and peek_available say
+    -- and every answer of every call: which submissions, completions and rollbacks are accepted, which IDs are given, what next_id and
+    -- peek_available say
     pub answers : Each (Right rules) h

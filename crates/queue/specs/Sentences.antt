@@ -159,7 +159,8 @@ module _ {C : Type 0} where
   -- ---- rollbacks
 
   -- "undoing every poll since": after this rollback the polls stand that stood and came before its checkpoint, those of them that are not completed
-  -- are held, and the chains of the others wait again, the oldest first, before those that waited. So `standing` and `held` (History.antt) say it rightly.
+  -- are held, and the chains of the others wait again, the oldest first, before those that waited. So `standing` and `held` (History.antt)
+  -- say it rightly.
   pub record RolledBack (h : History C) (c : C) (js : List ℕ) (u : Undoes h c js) : Type 0 where
     pub stand : standing (rolled c js ∷ h) ≡ upto (polls (u .before)) (standing h)
     pub still-held : held (rolled c js ∷ h) ≡ upto (polls (u .before)) (held h)
