@@ -71,7 +71,7 @@ use Rattle.packed.proofs.Invariant.{Like, Match, c-sound, c-whole, p-sound, p-w
 use Rattle.packed.proofs.First.{laid-out}
 use Rattle.packed.proofs.Packed.{demand-3, like-queue}
 use Rattle.packed.proofs.Submits.{submit-good}
-use Rattle.packed.proofs.Refused.{own-kept, foreign-leaves}
+use Rattle.packed.proofs.Refused.{own-kept, foreign-leaves, not-zero}
 use Rattle.further.specs.Since.{NotSubmitted, NotCompleted, OwnKeepsAvail, OwnKeepsUsed, QuietAvail, QuietUsed, Since, armAvail, armUsed}
 use Rattle.further.proofs.Told.{Awaits, awaits-same, armed-awaits, submit-told, submit-since, complete-told}
 
@@ -350,7 +350,7 @@ module _ (o : Opening packed) where
       keeps-awaits availOf (l .device) w (leaves packed w (own (byConsumer c)))
       (consumer-avail l (laid-out o) w (m .1 .p-layout) (m .1 .c-layout) c f s) a
   avail-step w q m (foreign x) f s a =
-      subst (λ (v : World). Awaits (l .device) (v .producer .end .avail) (v .ring)) (sym (foreign-leaves w x f)) a
+      subst (λ (v : World). Awaits (l .device) (v .producer .end .avail) (v .ring)) (sym (foreign-leaves w x (not-zero _ f))) a
 
   used-step :
       (w : World) (q : Queue Checkpoint) → Match l w q → (c : Call) → Fair w c → QuietUsed c (callSays packed size w c)
@@ -362,7 +362,7 @@ module _ (o : Opening packed) where
       keeps-awaits usedOf (l .driver) w (leaves packed w (own (byConsumer c)))
       (consumer-used l (laid-out o) w (m .1 .p-layout) (m .1 .c-layout) size c f s) a
   used-step w q m (foreign x) f s a =
-      subst (λ (v : World). Awaits (l .driver) (v .consumer .end .used) (v .ring)) (sym (foreign-leaves w x f)) a
+      subst (λ (v : World). Awaits (l .driver) (v .consumer .end .used) (v .ring)) (sym (foreign-leaves w x (not-zero _ f))) a
 
   -- armed while nothing waits, at the slot that the other end fills next
   module _ (before : List Given) (a : Fairly before) where

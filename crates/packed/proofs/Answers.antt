@@ -4,6 +4,11 @@ use Prim.Native.Nat.{ℕ, _<_}
 use mathlib.Core.Path.{_≡_, refl, sym}
 use mathlib.Core.Bool.{Bool, true, false, not, _&&_, _||_}
 use mathlib.Core.List.{List, []}
+use lib.Dec.{eqb}
+use lib.ListN.{length}
+use borrow.Author.Tests.{lt-ltb, le-ltb, lt-leb, le-leb}
+use Rattle.base.proofs.Tests.{by-lt}
+use Rattle.chain.specs.Chain.{badSlices}
 use Rattle.base.specs.Answer.{Answer, refused}
 use Rattle.producer.specs.Outcome as made
 use Rattle.consumer.specs.declared.Checkpoint.{Checkpoint}
@@ -74,6 +79,22 @@ abbrev pub afterAvailTurn : World → takenOutcome.Changed → World
 afterAvailTurn w o = afterConsumer w (takenChanged (w .consumer) o .side) (o .ring)
 
 -- ---- tests
+
+-- a chain is valid exactly if no submission of it is refused for its slices
+pub valid-is : (c : Chain) → validChain c ≡ not (badSlices (length (c .addrs)) (length (c .lens)) (c .readable))
+unfolding badSlices
+valid-is c =
+    by-lt (length (c .addrs)) (c .readable)
+    (λ h. simp (lt-leb (c .readable) (length (c .addrs)) h, lt-ltb (length (c .addrs)) (c .readable) h) (both-false (eqb (length (c .addrs)) (length (c .lens)))))
+    (λ h. simp (le-leb (c .readable) (length (c .addrs)) h, le-ltb (length (c .addrs)) (c .readable) h) (both-same (eqb (length (c .addrs)) (length (c .lens)))))
+  where
+    both-false : (b : Bool) → b && false ≡ not (not b || true)
+    both-false true = refl
+    both-false false = refl
+
+    both-same : (b : Bool) → b && true ≡ not (not b || false)
+    both-same true = refl
+    both-same false = refl
 
 pub and-true : (a b : Bool) → a ≡ true → b ≡ true → a && b ≡ true
 and-true a b p q = simp (p, q)

@@ -38,8 +38,8 @@ use Rattle.packed.proofs.Rollbacks.{mark-good, roll-good}
 use Rattle.packed.proofs.Asides.{producer-asked, consumer-asked, since-good, turn-used-good, arm-used-good, turn-avail-good, arm-avail-good}
 use Rattle.packed.proofs.Asides.{producer-reset-goes, consumer-reset-goes}
 use Rattle.packed.proofs.First.{laid-out, first-like}
-use Rattle.packed.proofs.Refused.{own-kept, foreign-kept, foreign-leaves, not-success}
-use Rattle.packed.proofs.Valid.{own-valid}
+use Rattle.packed.proofs.Refused.{own-kept, foreign-kept, foreign-leaves, not-zero, not-success}
+use Rattle.packed.proofs.Valid.{own-valid, never-foreign}
 
 module _ (l : Layout) (good : badLayout l ≡ false) where
   abbrev size : ℕ
@@ -98,7 +98,7 @@ module _ (l : Layout) (good : badLayout l ≡ false) where
         let n = callAnswer packed (givenIn w x) (foreign x) .number in
         let e : Event Checkpoint = said.unchanged (said.foreignAnswered n) in (
           tt,
-          subst (λ (v : World). Match l v (next (model h) e)) (sym (foreign-leaves w x f))
+          subst (λ (v : World). Match l v (next (model h) e)) (sym (foreign-leaves w x (not-zero _ f)))
               (m .0, like-unchanged l good (m .0) w (model h) (m .1) (said.foreignAnswered n) (m .1 .promise)),
         )
 
@@ -115,7 +115,13 @@ unfolding callSays
 call-kept size w (own c) t =
     own-kept w c (not-success _ (subst (λ (n : ℕ). T (forHanded n))
     (says-number checkpointIn (requestOf size (own c)) (ownAnswer packed w c) (ownExit packed w c .addrs) (ownExit packed w c .lens)) t))
-call-kept size w (foreign x) t = foreign-kept (givenIn w x) x t
+call-kept size w (foreign x) t = foreign-kept (givenIn w x) x (not-success _ t)
+
+-- a foreign call that is fair leaves both ends' own and the bytes
+pub call-unharmed :
+    (size : ℕ) (w : World) (c : Call) → FairCall c (callAnswer packed (placeOf w c) c .number) → requestOf size c .kind ≡ said.foreign → leaves packed w c ≡ w
+call-unharmed size w (own c) f k = absurd (never-foreign size c k)
+call-unharmed size w (foreign x) f k = foreign-leaves w x (not-zero _ f)
 
 -- ---- the promise
 
@@ -128,6 +134,7 @@ module _ (l : Layout) (good : badLayout l ≡ false) (w : World) (empty : Match 
         first = empty;
         step = λ h ok v c m f p. call-good l good h ok v (c .call) (c .typed) m f p;
         kind = λ v q c m f. call-kind l good v q (c .call) m;
+        unharmed = λ v c f k n. call-unharmed (l .size) v (c .call) f k;
         keeps = λ v c f t. call-kept (l .size) v (c .call) t;
       }
 

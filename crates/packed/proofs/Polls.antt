@@ -8,7 +8,7 @@ use mathlib.Core.List.{List, [], _∷_, _++_, append-assoc}
 use native.Mathlib.Omega.{arith}
 use lib.Dec.{ltb, leb}
 use lib.ListN.{length, getD, take, set, length-set}
-use lib.Seq.{sets}
+use lib.Seq.{sets, length-sets}
 use borrow.Author.Tests.{ltb-true, ltb-false, le-leb, lt-leb}
 use Rattle.base.specs.Answer.{done, refused, bit}
 use Rattle.base.proofs.Tests.{split, neither}
@@ -33,7 +33,8 @@ use Rattle.queue.specs.History as said
 use Rattle.queue.specs.Sentences.{All}
 use Rattle.queue.proofs.Listing.{all-right, items-append}
 use Rattle.queue.proofs.Model.{Queue, next, tail}
-use Rattle.queue.proofs.Says.{says-refused}
+use Rattle.queue.specs.Says.{firstOf}
+use Rattle.queue.proofs.Says.{says-refused, first-of}
 use Rattle.packed.specs.Calls.{asks, validOutputs}
 use Rattle.packed.specs.Machine.{World, checkpointIn, afterConsumer}
 use Rattle.packed.proofs.Answers.{saysPolled, saysPeeked, afterTaken, and-true, and-false}
@@ -184,16 +185,16 @@ module _ (l : Layout) (laid-out : badLayout l ≡ false) where
             (c-sound l laid-out ret w q k) (c-lent l laid-out ret w q k) (omega (arith, c)) (omega (arith, c)) (omega (arith, c, low)) unheld (omega (arith, c, fits)))
 
         -- what is read off the outputs is the chain
-        taken-first : (vs outs′ : List ℕ) → length vs ≤ length outs′ → take (length vs) (sets outs′ 0 vs) ≡ vs
-        taken-first vs outs′ h = part-same vs outs′ 0 (omega arith)
+        taken-first : (vs outs′ : List ℕ) → length vs ≤ length outs′ → firstOf (length vs) (sets outs′ 0 vs) ≡ vs
+        taken-first vs outs′ h = first-of (length vs) (sets outs′ 0 vs) (omega (arith, length-sets outs′ 0 vs, h)) ∙ part-same vs outs′ 0 (omega arith)
 
         says-x : saysPolled size outs louts (pollOf (w .consumer .end) (w .ring) (w .consumer .counts) outs louts) ≡ said.polled x
         says-x =
             let s = stands x xs e in
             let c = c-size l laid-out ret w q k in
             let da = taken-first (x .chain .addrs) outs (omega (arith, s .few, c)) in
-            let dl : take n (sets louts 0 (x .chain .lens)) ≡ x .chain .lens =
-            ap (λ (m : ℕ). take m (sets louts 0 (x .chain .lens))) (s .equal) ∙ taken-first (x .chain .lens) louts (omega (arith, s .few, s .equal, c)) in
+            let dl : firstOf n (sets louts 0 (x .chain .lens)) ≡ x .chain .lens =
+            ap (λ (m : ℕ). firstOf m (sets louts 0 (x .chain .lens))) (s .equal) ∙ taken-first (x .chain .lens) louts (omega (arith, s .few, s .equal, c)) in
             ap (saysPolled size outs louts) is-taken
             ∙ (λ i. said.polled (record { id = x .id; chain = record { addrs = da i; lens = dl i; readable = x .chain .readable } }))
 

@@ -35,10 +35,10 @@ use Rattle.packed.specs.Opening.{Opening, openedWorld}
 use Rattle.packed.specs.Real.{ProducerNew, ConsumerNew, producerGeometry, producerFinds, consumerGeometry, consumerFinds, RealCall, asCall}
 use Rattle.packed.specs.Real.{producers, consumers, toAnotherProducer, toAnotherConsumer, opensProducer, opensConsumer}
 use Rattle.packed.specs.Real.{entersIn, realAnswer, exitsIn, addrsIn, lensIn, addrsOut, lensOut, FairReal, realMachine}
-use Rattle.packed.specs.Real.{RealOpening, openedSize, realOpened, RealRun, AnswersAgree, IsRun}
+use Rattle.packed.specs.Real.{RealOpening, openedSize, realOpened, RealRun, RealDemand, asCalls, callsIn, AnswersAgree, IsRun}
 use Rattle.packed.proofs.Invariant.{Match, GoodAfter}
 use Rattle.packed.proofs.First.{laid-out, first-like, made-answer, taken-answer}
-use Rattle.packed.proofs.Packed.{call-good, call-kind, call-kept}
+use Rattle.packed.proofs.Packed.{call-good, call-kind, call-kept, call-unharmed}
 use Rattle.packed.proofs.Tied.{producer-tied, consumer-tied}
 
 -- ---- the machine, given what a real call was lent, answers and leaves what the real call did
@@ -199,13 +199,12 @@ module _ (o : RealOpening) where
         first = subst (λ (v : World). Match l v start) (same-opened o) ([], first-like (openingOf o));
         step = λ h ok w c m f p. real-good w c f h ok m p;
         kind = λ w q c m f. subst (OfKind (requestOf size (asCall c))) (same-says w c (f .own-given) size) (call-kind l good w q (asCall c) m);
+        unharmed = λ w c f k n. sym (same-leaves w c (f .own-given) size) ∙ call-unharmed size w (asCall c) (fair-too w c f) k;
         keeps = λ w c f t. real-kept w c f t;
       }
 
 -- Every run of real calls keeps demand 3
-pub real-demand-3 :
-    (r : RealRun)
-    → Demand3 (realMachine (openedSize (r .opening))) (plain (openedSize (r .opening))) (realOpened (r .opening)) (r .calls)
+pub real-demand-3 : RealDemand
 real-demand-3 r =
     demanded (realMachine (openedSize (r .opening))) (plain (openedSize (r .opening))) (realOpened (r .opening)) (real-matches (r .opening)) (r .calls) (r .premise)
 
@@ -219,35 +218,40 @@ module _ (o : RealOpening) where
   first-world = realOpened o
 
   -- the same calls
-  asCalls : (cs : List RealCall) → FairCalls (realMachine n) first-world cs → List Given
-  asCalls [] f = []
-  asCalls (c ∷ cs) f = record { call = asCall c; typed = f .1 .typed } ∷ asCalls cs (f .0)
+  givenCalls : (cs : List RealCall) → FairCalls (realMachine n) first-world cs → List Given
+  givenCalls [] f = []
+  givenCalls (c ∷ cs) f = record { call = asCall c; typed = f .1 .typed } ∷ givenCalls cs (f .0)
 
   same-world : (cs : List RealCall) (f : FairCalls (realMachine n) first-world cs)
-      → worldOf (machineOf packed n) first-world (asCalls cs f) ≡ worldOf (realMachine n) first-world cs
-  unfolding worldOf asCalls
+      → worldOf (machineOf packed n) first-world (givenCalls cs f) ≡ worldOf (realMachine n) first-world cs
+  unfolding worldOf givenCalls
   same-world [] f = refl
   same-world (c ∷ cs) f =
       ap (λ (v : World). leaves packed v (asCall c)) (same-world cs (f .0))
       ∙ same-leaves (worldOf (realMachine n) first-world cs) c (f .1 .own-given) n
 
   same-history : (cs : List RealCall) (f : FairCalls (realMachine n) first-world cs)
-      → historyOf (machineOf packed n) first-world (asCalls cs f) ≡ historyOf (realMachine n) first-world cs
-  unfolding historyOf asCalls
+      → historyOf (machineOf packed n) first-world (givenCalls cs f) ≡ historyOf (realMachine n) first-world cs
+  unfolding historyOf givenCalls
   same-history [] f = refl
   same-history (c ∷ cs) f =
       let v = worldOf (realMachine n) first-world cs in
-      ap (λ (x : World). callSays packed n x (asCall c) ∷ historyOf (machineOf packed n) first-world (asCalls cs (f .0))) (same-world cs (f .0))
+      ap (λ (x : World). callSays packed n x (asCall c) ∷ historyOf (machineOf packed n) first-world (givenCalls cs (f .0))) (same-world cs (f .0))
       ∙ (λ i. same-says v c (f .1 .own-given) n i ∷ same-history cs (f .0) i)
 
-  fair-calls : (cs : List RealCall) (f : FairCalls (realMachine n) first-world cs) → FairCalls (machineOf packed n) first-world (asCalls cs f)
-  unfolding asCalls
+  fair-calls : (cs : List RealCall) (f : FairCalls (realMachine n) first-world cs) → FairCalls (machineOf packed n) first-world (givenCalls cs f)
+  unfolding givenCalls
   fair-calls [] f = tt
   fair-calls (c ∷ cs) f = (
     fair-calls cs (f .0),
     subst (λ (v : World). FairCall (asCall c) (callAnswer packed (placeOf v (asCall c)) (asCall c) .number)) (sym (same-world cs (f .0)))
         (fair-too o (worldOf (realMachine n) first-world cs) c (f .1)),
   )
+
+given-are : (o : RealOpening) (cs : List RealCall) (f : FairCalls (realMachine (openedSize o)) (realOpened o) cs) → callsIn (givenCalls o cs f) ≡ asCalls cs
+unfolding givenCalls
+given-are o [] f = refl
+given-are o (c ∷ cs) f = ap (λ (t : List Call). asCall c ∷ t) (given-are o cs (f .0))
 
 answers-agree : (n : ℕ) (w : World) (cs : List RealCall) → FairCalls (realMachine n) w cs → AnswersAgree n w cs
 answers-agree n w [] f = tt
@@ -259,7 +263,7 @@ real-is-run r =
     let o = r .opening in
     let m = machineOf packed (openedSize o) in
     let f = r .premise .fair in
-    let cs = asCalls o (r .calls) f in
+    let cs = givenCalls o (r .calls) f in
     let e : openedWorld packed (openingOf o) ≡ realOpened o = same-opened o in
     let p : Premise m (plain (openedSize o)) (realOpened o) cs =
     record { fair = fair-calls o (r .calls) f; rollbacks = subst (Each (MayFollow (plain (openedSize o)))) (sym (same-history o (r .calls) f)) (r .premise .rollbacks) } in
@@ -270,6 +274,8 @@ real-is-run r =
             calls = cs;
             premise = subst (λ (w : World). Premise m (plain (openedSize o)) w cs) (sym e) p;
           };
+      geometry = refl;
+      calls = given-are o (r .calls) f;
       answers = answers-agree (openedSize o) (realOpened o) (r .calls) f;
       history = ap (λ (w : World). historyOf m w cs) e ∙ same-history o (r .calls) f;
       world = ap (λ (w : World). worldOf m w cs) e ∙ same-world o (r .calls) f;

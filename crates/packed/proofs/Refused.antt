@@ -2,10 +2,10 @@
 -- Assumes nothing.
 use Prim.Native.Nat.{ℕ}
 use mathlib.Core.Path.{_≡_, refl, sym, ap, _∙_, subst}
-use mathlib.Core.Bool.{_||_}
+use mathlib.Core.Bool.{not, _||_}
 use mathlib.Core.List.{List, []}
 use native.Mathlib.Omega.{arith}
-use lib.Dec.{T, ltb}
+use lib.Dec.{T, ltb, eqb}
 use lib.ListN.{length}
 use borrow.Author.Tests.{ltb-true, ltb-false}
 use Rattle.base.specs.Answer.{Answer}
@@ -219,20 +219,24 @@ module _ (g : Layout) (r k : List ℕ) where
 
 -- ---- foreign calls
 
+-- a number that is not 0
+pub not-zero : (n : ℕ) → T (not (eqb n 0)) → n ≡ 0 → ⊥
+not-zero n t e = subst (λ (m : ℕ). T (not (eqb m 0))) e t
+
 -- a refusal of what was handed in is a refusal
 pub not-success : (n : ℕ) → T (forHanded n) → n ≡ 0 → ⊥
 not-success n t e = subst (λ (m : ℕ). T (forHanded m)) e t
 
 -- "Calls refused for bad records or buffers aren't counted": a call given a foreign record, tables or bytes, or an opening, and refused for it leaves
--- all that it was given as it was
-pub foreign-kept : (v : World) (f : Foreign) → T (forHanded (callAnswer packed v (foreign f) .number)) → callExit packed v (foreign f) ≡ callEntry v (foreign f)
-foreign-kept v (toProducer l b c) t = own-kept v (byProducer c) (not-success _ t)
-foreign-kept v (toConsumer l b c) t = own-kept v (byConsumer c) (not-success _ t)
+-- all that it was given as it was; so does one that is refused with any other number
+pub foreign-kept : (v : World) (f : Foreign) → (callAnswer packed v (foreign f) .number ≡ 0 → ⊥) → callExit packed v (foreign f) ≡ callEntry v (foreign f)
+foreign-kept v (toProducer l b c) t = own-kept v (byProducer c) t
+foreign-kept v (toConsumer l b c) t = own-kept v (byConsumer c) t
 foreign-kept v (newProducer g i k b) t =
-    let e = producer-new-kept g (v .ring) (v .producer .ids) (v .producer .counts) (not-success _ t) in
+    let e = producer-new-kept g (v .ring) (v .producer .ids) (v .producer .counts) t in
     λ j. lendings (afterProducer v (record { end = v .producer .end; ids = e .0 j; counts = e .1 j }) (v .ring)) [] []
 foreign-kept v (newConsumer g k b) t =
-    let e = consumer-new-kept g (v .ring) (v .consumer .counts) (not-success _ t) in
+    let e = consumer-new-kept g (v .ring) (v .consumer .counts) t in
     λ j. lendings (afterConsumer v (record { end = v .consumer .end; counts = e j }) (v .ring)) [] []
 
 -- so what of it is the ends' own is as it was, too
@@ -269,7 +273,7 @@ entry-world v (toConsumer l b c) = refl
 entry-world v (newProducer g i k b) = refl
 entry-world v (newConsumer g k b) = refl
 
-pub foreign-leaves : (w : World) (f : Foreign) → T (forHanded (callAnswer packed (givenIn w f) (foreign f) .number)) → leaves packed w (foreign f) ≡ w
+pub foreign-leaves : (w : World) (f : Foreign) → (callAnswer packed (givenIn w f) (foreign f) .number ≡ 0 → ⊥) → leaves packed w (foreign f) ≡ w
 unfolding leaves
 foreign-leaves w f t =
     ap (λ (x : Lendings). keptIn w f (x .world)) (foreign-kept (givenIn w f) f t) ∙ ap (keptIn w f) (entry-world (givenIn w f) f) ∙ kept-in-given w f

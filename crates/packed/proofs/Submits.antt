@@ -36,7 +36,7 @@ use Rattle.queue.proofs.Listing.{all-append}
 use Rattle.queue.proofs.Model.{Queue, next}
 use Rattle.packed.specs.Calls.{asks, validChain, TypedChain}
 use Rattle.packed.specs.Machine.{World, submitsOf, tellsOf, afterProducer}
-use Rattle.packed.proofs.Answers.{saysSubmitted, afterMade, read-refused}
+use Rattle.packed.proofs.Answers.{saysSubmitted, afterMade, read-refused, valid-is}
 use Rattle.packed.proofs.Position.{pos, round, view, pos-add, apart}
 use Rattle.packed.proofs.Counts.{Used, ofItems, slots, tot, pos-len, pos-snoc, at-set, tot-item, occ-item, slots-item, items-tot}
 use Rattle.packed.proofs.Spells.{Spell, Spells, spells-cong, spells-append, returns-cong, spell-flags}
@@ -231,16 +231,16 @@ module _ (l : Layout) (laid-out : badLayout l ≡ false) where
         let r = p-sound l laid-out ret w q k in
         let t = p-lent l laid-out ret w q k in
         split (badSlices (length (c .addrs)) (length (c .lens)) (c .readable))
-        (λ b. submit-no 8 false (omega arith) (submit-bad-chain (w .producer .end) (length (w .ring)) (w .producer .ids) (w .producer .counts) n (length (c .lens)) (c .readable) r t b) (ap not b)
+        (λ b. submit-no 8 false (omega arith) (submit-bad-chain (w .producer .end) (length (w .ring)) (w .producer .ids) (w .producer .counts) n (length (c .lens)) (c .readable) r t b) (valid-is c ∙ ap not b)
         (λ h. (λ z. z, inl (tt, (refl, refl))), (ret, like-unchanged l laid-out ret w q k (said.refused (said.submit c) false 8) (k .promise))))
         (λ g.
         by-lt 0 n
         (λ z.
         by-lt (w .producer .end .free) n
-        (λ f. submit-no 3 true (omega arith) (submit-blocks (w .producer .end) (length (w .ring)) (w .producer .ids) (w .producer .counts) n (length (c .lens)) (c .readable) r t g z f) (ap not g)
+        (λ f. submit-no 3 true (omega arith) (submit-blocks (w .producer .end) (length (w .ring)) (w .producer .ids) (w .producer .counts) n (length (c .lens)) (c .readable) r t g z f) (valid-is c ∙ ap not g)
         (λ h. (λ y. y, inr (refl, inr (refl, (z, omega (arith, free-in l laid-out ret w q k, f))))), (ret, like-unchanged l laid-out ret w q k (said.refused (said.submit c) true 3) (k .promise))))
         (λ f. submit-gives typed g z f))
-        (λ z. submit-no 1 true (omega arith) (submit-empty (w .producer .end) (length (w .ring)) (w .producer .ids) (w .producer .counts) n (length (c .lens)) (c .readable) r t g (omega arith)) (ap not g)
+        (λ z. submit-no 1 true (omega arith) (submit-empty (w .producer .end) (length (w .ring)) (w .producer .ids) (w .producer .counts) n (length (c .lens)) (c .readable) r t g (omega arith)) (valid-is c ∙ ap not g)
         (λ h. (λ y. y, inr (refl, inl (refl, omega arith))), (ret, like-unchanged l laid-out ret w q k (said.refused (said.submit c) true 1) (k .promise)))))
 
     -- WITH NOTIFY: the same, said and left

@@ -2,7 +2,7 @@
 -- Assumes nothing.
 use Prim.Native.Nat.{ℕ, _≤_}
 use mathlib.Core.Path.{_≡_, refl, sym, ap, _∙_, subst}
-use mathlib.Core.Bool.{Bool, true, false, not, _&&_, _||_}
+use mathlib.Core.Bool.{Bool, true, false, false≢true, not, _&&_, _||_}
 use mathlib.Core.List.{List}
 use native.Mathlib.Omega.{arith}
 use lib.Dec.{ltb, leb}
@@ -25,7 +25,8 @@ use Rattle.consumer.specs.Poll.{Taken, headOf}
 use Rattle.consumer.proofs.Poll.{poll-stopped}
 use Rattle.consumer.proofs.Rollback.{rollback-stopped}
 use Rattle.consumer.proofs.Goes as takes
-use Rattle.queue.specs.History.{Chain}
+use Rattle.queue.specs.History.{Chain, Kind}
+use Rattle.queue.specs.History as said
 use Rattle.queue.proofs.Model.{Queue}
 use Rattle.packed.specs.Calls.{ProducerCall, ConsumerCall, Own, oneOf, validChain, validOutputs, validCheckpoint, requestOf, own}
 use Rattle.packed.specs.Calls.{submitAvailable, submitAvailableWithNotify, submitOne, submitOneWithNotify, pollUsed, nextId}
@@ -33,7 +34,7 @@ use Rattle.packed.specs.Calls.{producerAsked, shouldNotifySince, turnUse
 use Rattle.packed.specs.Calls.{pollAvailable, submitUsed, submitUsedWithNotify, peekAvailable, pollCheckpoint, rollbackPolls}
 use Rattle.packed.specs.Calls.{consumerAsked, turnAvail, enableAvailDesc, enableAvailForNext, consumerReset, byProducer, byConsumer}
 use Rattle.packed.specs.Machine.{World, packed, ownAnswer, submitsOf, tellsOf, pollsOf, rollsOf, producerDoes, consumerDoes}
-use Rattle.packed.proofs.Answers.{and-true}
+use Rattle.packed.proofs.Answers.{and-true, valid-is}
 use Rattle.packed.proofs.Counts.{Used}
 use Rattle.packed.proofs.Invariant.{Like, Match, p-size, p-sound, p-lent, c-size, c-sound, c-lent}
 
@@ -56,7 +57,7 @@ module _ (l : Layout) (laid-out : badLayout l ≡ false) where
         not-done (submitsOf p (w .ring) c .answer .number) 8
         (ap (λ (o : made.Outcome). o .answer .number) (submit-refused (p .end) (w .ring) (p .ids) (p .counts) (c .addrs) (c .lens) (c .readable) (λ y. omega (arith, e, y))) ∙ e)
         (λ y. omega arith) z)
-        (λ f. ap not f)
+        (λ f. valid-is c ∙ ap not f)
 
     told-valid : (c : Chain) → tellsOf (w .producer) (w .ring) c .answer .number ≡ 0 → validChain c ≡ true
     told-valid c z = submit-valid c (sym (makes.tell-number (w .producer .end .avail) (submitsOf (w .producer) (w .ring) c)) ∙ z)
@@ -134,3 +135,50 @@ module _ (l : Layout) (laid-out : badLayout l ≡ false) where
     pub own-valid : (c : Own) → ownAnswer packed w c .number ≡ 0 → requestOf size (own c) .valid ≡ true
     own-valid (byProducer c) z = producer-valid c z
     own-valid (byConsumer c) z = consumer-valid c z
+
+-- no call by an end given its own is a foreign one
+isForeign : Kind Checkpoint → Bool
+isForeign (said.submit c) = false
+isForeign said.reclaim = false
+isForeign said.nextId = false
+isForeign said.poll = false
+isForeign (said.complete d) = false
+isForeign said.peek = false
+isForeign said.checkpoint = false
+isForeign (said.rollback c js) = false
+isForeign said.other = false
+isForeign said.foreign = true
+
+producer-own : (size : ℕ) (c : ProducerCall) → isForeign (requestOf size (own (byProducer c)) .kind) ≡ false
+unfolding isForeign
+producer-own size (submitAvailable c) = refl
+producer-own size (submitAvailableWithNotify c) = refl
+producer-own size (submitOne a n b) = refl
+producer-own size (submitOneWithNotify a n b) = refl
+producer-own size pollUsed = refl
+producer-own size nextId = refl
+producer-own size (producerAsked x) = refl
+producer-own size (shouldNotifySince c) = refl
+producer-own size (turnUsed f) = refl
+producer-own size (enableUsedDesc o b) = refl
+producer-own size enableUsedForNext = refl
+producer-own size producerReset = refl
+
+consumer-own : (size : ℕ) (c : ConsumerCall) → isForeign (requestOf size (own (byConsumer c)) .kind) ≡ false
+unfolding isForeign
+consumer-own size (pollAvailable a b) = refl
+consumer-own size (submitUsed i n) = refl
+consumer-own size (submitUsedWithNotify i n) = refl
+consumer-own size peekAvailable = refl
+consumer-own size pollCheckpoint = refl
+consumer-own size (rollbackPolls c js) = refl
+consumer-own size (consumerAsked x) = refl
+consumer-own size (turnAvail f) = refl
+consumer-own size (enableAvailDesc o b) = refl
+consumer-own size enableAvailForNext = refl
+consumer-own size consumerReset = refl
+
+pub never-foreign : (size : ℕ) (c : Own) → requestOf size (own c) .kind ≡ said.foreign → ⊥
+unfolding isForeign
+never-foreign size (byProducer c) e = false≢true (sym (producer-own size c) ∙ ap isForeign e)
+never-foreign size (byConsumer c) e = false≢true (sym (consumer-own size c) ∙ ap isForeign e)

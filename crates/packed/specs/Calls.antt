@@ -1,13 +1,12 @@
 -- "Any mix of their calls": every call of both ends, with any arguments of their types, and whom each is given to. The names are the Rust's, but for
--- the notifications, where they are shorter.
+-- the questions and the notifications. That no public function is left out: Real.antt has a case for each.
 use Prim.Native.Nat.{ℕ, _^_, _<_}
 use mathlib.Core.Path.{_≡_}
 use mathlib.Core.List.{List, [], _∷_}
-use mathlib.Core.Bool.{Bool, true, not, cond, _&&_}
-use lib.Dec.{ltb, leb}
+use mathlib.Core.Bool.{Bool, true, cond, _&&_}
+use lib.Dec.{ltb, leb, eqb}
 use lib.ListN.{length, getD}
 use Rattle.cursor.specs.declared.RingCursor.{RingCursor}
-use Rattle.chain.specs.Chain.{badSlices}
 use Rattle.layout.specs.declared.Layout.{Layout}
 use Rattle.producer.specs.declared.RingProducer.{RingProducer}
 use Rattle.consumer.specs.declared.RingConsumer.{RingConsumer}
@@ -46,7 +45,7 @@ pub data ProducerCall : Type 0 where
   producerAsked : ProducerQuestion → ProducerCall
   -- an old avail cursor
   shouldNotifySince : RingCursor → ProducerCall
-  -- enable_used_notifications, of ENABLE, and disable_used_notifications, of DISABLE
+  -- enable_used_notifications (of ENABLE) and disable_used_notifications (of DISABLE)
   turnUsed : ℕ → ProducerCall
   -- enable_used_notifications_desc: offset, wrap; and .._for_next
   enableUsedDesc : ℕ → Bool → ProducerCall
@@ -64,7 +63,7 @@ pub data ConsumerCall : Type 0 where
   -- the checkpoint, and the IDs of the polls to undo
   rollbackPolls : Checkpoint → List ℕ → ConsumerCall
   consumerAsked : ConsumerQuestion → ConsumerCall
-  -- the same four calls of the consumer, for available notifications
+  -- the same for available notifications
   turnAvail : ℕ → ConsumerCall
   enableAvailDesc : ℕ → Bool → ConsumerCall
   enableAvailForNext : ConsumerCall
@@ -91,8 +90,8 @@ pub record LentConsumer : Type 0 where
   pub end : Lent RingConsumer
   pub counts : Lent (List ℕ)
 
--- "Calls refused for bad records or buffers": a call of either end given any record, tables and bytes, some of them the end's own; and an opening
--- with any geometry, tables and bytes, some of them an end's
+-- a call of either end given any record, tables and bytes, some of them the end's own; and an opening with any geometry, tables and bytes, some of
+-- them an end's. "Calls refused for bad records or buffers" are among these
 pub data Foreign : Type 0 where
   toProducer : LentProducer → Lent (List ℕ) → ProducerCall → Foreign
   toConsumer : LentConsumer → Lent (List ℕ) → ConsumerCall → Foreign
@@ -113,7 +112,7 @@ oneOf addr len writable = record { addrs = addr ∷ []; lens = len ∷ []; reada
 -- a chain's slices are of equal length, with a readable count within it; both outputs have an entry for each slot; a checkpoint's heads are on
 -- the ring
 abbrev pub validChain : Chain → Bool
-validChain c = not (badSlices (length (c .addrs)) (length (c .lens)) (c .readable))
+validChain c = eqb (length (c .addrs)) (length (c .lens)) && leb (c .readable) (length (c .addrs))
 
 abbrev pub validOutputs : ℕ → List ℕ → List ℕ → Bool
 validOutputs size addrs lens = leb size (length addrs) && leb size (length lens)

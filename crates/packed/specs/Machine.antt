@@ -3,6 +3,7 @@
 use Prim.Native.Nat.{ℕ, _-_}
 use mathlib.Core.Path.{_≡_}
 use mathlib.Core.List.{List, [], _∷_}
+use mathlib.Core.Bool.{not}
 use lib.Dec.{T, eqb}
 use lib.ListN.{getD}
 use Rattle.base.specs.Answer.{Answer, bit}
@@ -28,7 +29,6 @@ use Rattle.consumer.specs.Notices as availNotices
 use Rattle.consumer.specs.Fresh as takenFresh
 use Rattle.queue.specs.History.{Chain, Event}
 use Rattle.queue.specs.History as said
-use Rattle.queue.specs.Promise.{forHanded}
 use Rattle.queue.specs.Machine.{Machine}
 use Rattle.queue.specs.Says.{says}
 use Rattle.packed.specs.Calls.{ProducerQuestion, ConsumerQuestion, ProducerCall, ConsumerCall, Own, Lent, Foreign, Call, Given}
@@ -227,11 +227,11 @@ abbrev pub keptOf : World → Call → World → World
 keptOf w (own c) v = v
 keptOf w (foreign f) v = keptIn w f v
 
--- what is fair: no reset that is accepted, and no call given what is not the end's own but one that is refused for it
+-- what is fair: no reset that is accepted, and no call given what is not the end's own but one that is refused
 abbrev pub FairCall : Call → ℕ → Type 0
 FairCall (own (byProducer c)) n = FairProducer c n
 FairCall (own (byConsumer c)) n = FairConsumer c n
-FairCall (foreign f) n = T (forHanded n)
+FairCall (foreign f) n = T (not (eqb n 0))
 
 -- the call with its answer; what a poll gave is read from its outputs at exit
 abbrev pub saysOf : ℕ → Call → Answer → List ℕ → List ℕ → Event Checkpoint

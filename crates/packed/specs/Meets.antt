@@ -1,10 +1,11 @@
--- One call of a public function, of which is known only that it meets the function's GENERATED contract.
+-- One call of a public function, of which is known only that it meets the function's GENERATED contract. (That every call returns, with a result and
+-- exit that meet it, is what the prover proves of each function: none of them asks anything of its caller.)
 use Prim.Native.Nat.{ℕ}
 use mathlib.Core.List.{List}
 use Rattle.queue.specs.History.{Chain}
 
 -- its arguments when it was called, its result, its arguments when it returned, and that these meet the contract (`Post` is what the prover made
--- of the function's `ensures`)
+-- of the function's `ensures`; K, D, R and S are the types of its lifetimes, arguments, result and arguments at exit)
 pub record Meets {K D R S : Type 0} (Post : K → D → R → S → Type 0) : Type 0 where
   pub lifetimes : K
   pub entry : D

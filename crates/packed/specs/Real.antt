@@ -20,9 +20,9 @@ use Rattle.consumer.specs.Fresh as takenFresh
 use Rattle.consumer.proofs.RingConsumer.new.Reads as consumer-new-contract
 use Rattle.queue.specs.Promise.{plain}
 use Rattle.queue.specs.Machine.{Machine, worldOf, historyOf}
-use Rattle.queue.specs.Demand.{Premise}
+use Rattle.queue.specs.Demand.{Premise, Demand3}
 use Rattle.packed.specs.Meets.{Meets, first, second, third, fourth, fifth, sixth, seventh}
-use Rattle.packed.specs.Calls.{Lent, LentProducer, LentConsumer, Call, TypedCall, requestOf}
+use Rattle.packed.specs.Calls.{Lent, LentProducer, LentConsumer, Call, Given, TypedCall, requestOf}
 use Rattle.packed.specs.Calls.{byProducer, byConsumer, toProducer, toConsumer, newProducer, newConsumer, own, foreign}
 use Rattle.packed.specs.Machine.{World, Lendings, lendings, addrsLent, lensLent, placeOf, keptOf, FairCall, saysOf}
 use Rattle.packed.specs.Machine.{afterProducer, afterConsumer, packed, callAnswer}
@@ -192,7 +192,21 @@ pub record RealRun : Type 0 where
   pub calls : List RealCall
   pub premise : Premise (realMachine (openedSize opening)) (plain (openedSize opening)) (realOpened opening) calls
 
+-- DEMAND 3 of the functions: of every run of real calls
+abbrev pub RealDemand : Type 0
+RealDemand =
+    (r : RealRun) → Demand3 (realMachine (openedSize (r .opening))) (plain (openedSize (r .opening))) (realOpened (r .opening)) (r .calls)
+
 -- ---- and its run of the machine
+
+-- the calls, without what was answered
+abbrev pub asCalls : List RealCall → List Call
+asCalls [] = []
+asCalls (c ∷ cs) = asCall c ∷ asCalls cs
+
+abbrev pub callsIn : List Given → List Call
+callsIn [] = []
+callsIn (g ∷ gs) = g .call ∷ callsIn gs
 
 -- each call of a real run answered what the machine answers in its place, values and all
 abbrev pub AnswersAgree : ℕ → World → List RealCall → Type 0
@@ -200,9 +214,11 @@ AnswersAgree n w [] = Unit
 AnswersAgree n w (c ∷ cs) =
     AnswersAgree n w cs × (callAnswer packed (placeOf (worldOf (realMachine n) w cs) (asCall c)) (asCall c) ≡ realAnswer c)
 
--- a run of the machine with the same answers, and after it the same records, tables and bytes
+-- a run of the machine with the same calls and answers, and after it the same records, tables and bytes
 pub record IsRun (r : RealRun) : Type 0 where
   pub run : Run packed
+  pub geometry : run .opening .geometry ≡ producerGeometry (r .opening .producerNew)
+  pub calls : callsIn (run .calls) ≡ asCalls (r .calls)
   pub answers : AnswersAgree (openedSize (r .opening)) (realOpened (r .opening)) (r .calls)
   pub history : historyIn packed run ≡ historyOf (realMachine (openedSize (r .opening))) (realOpened (r .opening)) (r .calls)
   pub world : worldIn packed run ≡ worldOf (realMachine (openedSize (r .opening))) (realOpened (r .opening)) (r .calls)

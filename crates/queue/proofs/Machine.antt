@@ -77,6 +77,7 @@ module _ {C : Type 0} (M : Machine C) (rules : Rules C) (w : M .World) where
     pub step : (h : History C) → AllOk rules h → (v : M .World) (c : M .Call) → Like v (model h) → M .Fair v c → MayFollow rules h (M .say v c)
         → Ok rules h (model h) (M .say v c) × Like (M .go v c) (next (model h) (M .say v c))
     pub kind : (v : M .World) (q : Queue C) (c : M .Call) → Like v q → M .Fair v c → OfKind (M .request c) (M .say v c)
+    pub unharmed : (v : M .World) (c : M .Call) → M .Fair v c → M .request c .kind ≡ foreign → (numberOf (M .say v c) ≡ 0 → ⊥) → M .go v c ≡ v
     pub keeps : (v : M .World) (c : M .Call) → M .Fair v c → T (forHanded (numberOf (M .say v c))) → M .exit v c ≡ M .entry v c
 
   module _ (m : Matches) where
@@ -139,6 +140,7 @@ module _ {C : Type 0} (M : Machine C) (rules : Rules C) (w : M .World) where
             refusals = λ k v n later before s t.
                 ⊎-elim (λ z. z .1) (λ z. absurd (held-not-handed rules before k n (z .1) t)) (right-at later before _ s .1);
             left-alone = λ later before c s t. m .keeps (worldOf M w before) c (premise-to later before c s .fair .1) t;
+            unharmed = λ later before c s k n. m .unharmed (worldOf M w before) c (premise-to later before c s .fair .1) k n;
             kinds = λ later before c s.
                 m .kind (worldOf M w before) (model (historyOf M w before)) c (like-at later before c s) (premise-to later before c s .fair .1);
             rollbacks = λ c js later before s.

@@ -1,11 +1,12 @@
 -- What is read off an answer: success or a refusal, and always an event of the call's kind.
 -- Assumes nothing.
-use Prim.Native.Nat.{ℕ, _<_}
+use Prim.Native.Nat.{ℕ, zero, suc, _≤_, _<_}
 use mathlib.Core.Path.{_≡_, refl, sym, ap, _∙_}
 use mathlib.Core.Bool.{Bool, true, false, cond}
-use mathlib.Core.List.{List}
+use mathlib.Core.List.{List, [], _∷_}
 use native.Mathlib.Omega.{arith}
 use lib.Dec.{eqb}
+use lib.ListN.{length, take}
 use borrow.Author.Tests.{eqb-true, eq-eqb, ne-eqb}
 use Rattle.base.specs.Answer.{Answer}
 use Rattle.base.specs.Answer as answer
@@ -13,7 +14,13 @@ use Rattle.base.proofs.Tests.{split}
 use Rattle.queue.specs.History.{Kind, Request, Event}
 use Rattle.queue.specs.History.{submit, reclaim, nextId, poll, complete, peek, checkpoint, rollback, other, foreign, refused, unchanged}
 use Rattle.queue.specs.Machine.{numberOf, Accepts, OfKind}
-use Rattle.queue.specs.Says.{accepted, says}
+use Rattle.queue.specs.Says.{firstOf, accepted, says}
+
+-- of a list that is long enough, its first n
+pub first-of : (n : ℕ) (l : List ℕ) → n ≤ length l → firstOf n l ≡ take n l
+first-of zero l h = refl
+first-of (suc n) [] h = absurd (omega arith)
+first-of (suc n) (x ∷ l) h = ap (λ (t : List ℕ). x ∷ t) (first-of n l (omega arith))
 
 module _ {C : Type 0} (checkpointIn : List ℕ → C) where
   -- an accepted call and a refused one

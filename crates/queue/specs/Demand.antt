@@ -1,4 +1,4 @@
--- DEMAND 3, in one statement: "completions meet their own submissions". In the customer's words: "Take two fresh ends over one zeroed ring, any mix
+-- DEMAND 3, in one statement: completions meet their own submissions. In the customer's words: "Take two fresh ends over one zeroed ring, any mix
 -- of their calls, no reset, no other writer, each end given back its own last record and tables, and each rollback using a checkpoint that its end
 -- took and undoing every poll since, with no completion between. Then a poll returns the oldest published chain whose polls, if any, were all rolled
 -- back, element for element, and blocks only when none waits. With k ahead it arrives at poll k+1 if nothing is rolled back meanwhile. Completions
@@ -11,7 +11,7 @@ use mathlib.Core.Bool.{Bool, not}
 use lib.Dec.{T}
 use lib.ListN.{length}
 use Rattle.queue.specs.History.{Item, Done, Kind, Event, History, items, pubs, comps, reclaims, standing}
-use Rattle.queue.specs.History.{poll, reclaim, refused, polled, reclaimed, rolled, unchanged}
+use Rattle.queue.specs.History.{poll, reclaim, foreign, refused, polled, reclaimed, rolled, unchanged}
 use Rattle.queue.specs.Promise.{Undoes, Rules, forHanded, Each, MayFollow, Right}
 use Rattle.queue.specs.Sentences.{All, counted, isPoll, isReclaim, UndoesNothing, Oldest, NoneWaits, ItsOwn, ItsOwnBefore, RolledBack}
 use Rattle.queue.specs.Machine.{Machine, worldOf, historyOf, FairCalls, numberOf, OfKind}
@@ -53,24 +53,29 @@ module _ {C : Type 0} (M : Machine C) (rules : Rules C) (w : M .World) (calls : 
         (front rest : List Done) (d : Done) (later between before : History C) (e : Event C) → h ≡ later ++ (e ∷ (between ++ before))
         → comps before ≡ reclaims before ++ (front ++ (d ∷ rest))
         → counted isReclaim between ≡ length front → T (isReclaim e) → e ≡ reclaimed d
-    -- "with their own ID and length": as a completion is returned it is of a submission p, which was published, polled and completed before, under
+    -- "with their own ID and length": as a completion is returned (`own-before`), and of all that were returned (`own`), it is of a submission p, which was published, polled and completed before, under
     -- the ID that it got; and it is what the consumer completed it with
     pub own-before : (d : Done) (later before : History C) → h ≡ later ++ (reclaimed d ∷ before) → (p : ℕ) × ItsOwnBefore before d p
     pub own : (j : ℕ) → j < length (reclaims h) → (p : ℕ) × (p < length (pubs h)) × ItsOwn h j p
     -- "once each": no two completions that were returned are of one submission
     pub once : (i j p : ℕ) → ItsOwn h i p → ItsOwn h j p → i ≡ j
-    -- "Calls refused for bad records or buffers aren't counted": a call by an end given its own is so refused only for what that call was handed
+    -- "Calls refused for bad records or buffers aren't counted" (`isPoll` and `isReclaim` do not count them): a call by an end given its own is so
+    -- refused only for what that call was handed
     pub refusals :
         (k : Kind C) (v : Bool) (n : ℕ) (later before : History C) → h ≡ later ++ (unchanged (refused k v n) ∷ before)
         → T (forHanded n) → rules .MayRefuse before k v n
-    -- and whoever made it, with whatever, a call so refused leaves all that it was lent as it was
+    -- whoever made it, with whatever, a call so refused leaves all that it was lent as it was
     pub left-alone :
         (later before : List (M .Call)) (c : M .Call) → calls ≡ later ++ (c ∷ before) → T (forHanded (numberOf (M .say (worldOf M w before) c)))
         → M .exit (worldOf M w before) c ≡ M .entry (worldOf M w before) c
-    -- every call gets an answer of its own kind
+    -- and a foreign call that is refused, with any number, leaves both ends' own and the bytes as they were
+    pub unharmed :
+        (later before : List (M .Call)) (c : M .Call) → calls ≡ later ++ (c ∷ before) → M .request c .kind ≡ foreign
+        → (numberOf (M .say (worldOf M w before) c) ≡ 0 → ⊥) → M .go (worldOf M w before) c ≡ worldOf M w before
+    -- every call gets an answer of its own kind, and only a valid call is accepted
     pub kinds :
         (later before : List (M .Call)) (c : M .Call) → calls ≡ later ++ (c ∷ before) → OfKind (M .request c) (M .say (worldOf M w before) c)
-    -- what an accepted rollback does
+    -- what an accepted rollback does to the lists that this statement is made of: so they are what their names say
     pub rollbacks :
         (c : C) (js : List ℕ) (later before : History C) → h ≡ later ++ (rolled c js ∷ before)
         → (u : Undoes before c js) × RolledBack before c js u

@@ -45,7 +45,8 @@ pub data Kind (C : Type 0) : Type 0 where
   foreign : Kind C
 
 -- a call as its caller sees it: what it asks for, and whether all that it hands in besides the end's own is valid (slices of equal length, outputs
--- long enough, a cursor or checkpoint on the ring). It is judged by the call and the size that was opened, never by what the ring says.
+-- with an entry for each slot of the ring, a cursor or checkpoint on the ring). It is judged by the call and the size that was opened, never by
+-- what the ring says.
 pub record Request (C : Type 0) : Type 0 where
   pub kind : Kind C
   pub valid : Bool
@@ -187,7 +188,7 @@ module _ {C : Type 0} where
   reclaims (unchanged u ∷ h) = reclaims h
 
   -- the polls that stand: those that gave a chain and were not rolled back. A rollback undoes as many as its list names, the latest. That these are
-  -- exactly the polls since its checkpoint is part of the promise: `RolledBack` (Sentences.antt), field `rollbacks` of `Demand3`.
+  -- exactly the polls since its checkpoint: `RolledBack` (Sentences.antt), field `rollbacks` of `Demand3`.
   unfoldable pub standing : History C → List Poll
   standing [] = []
   standing (submitted x ∷ h) = standing h

@@ -76,9 +76,9 @@ pub record Rules (C : Type 0) : Type 1 where
   pub size : ℕ
   -- how many of its IDs the chains that are out have taken, of as many as it has slots
   pub idsTaken : List Item → ℕ
-  -- what is asked of the callers where a rollback is accepted
+  -- what is asked of the callers where a rollback is accepted (premise)
   pub MayUndo : History C → C → List ℕ → Type 0
-  -- which rollbacks must be accepted
+  -- which rollbacks must be accepted (promise)
   pub MustUndo : History C → C → List ℕ → Type 0
   -- when a refusal of what was handed in is right: the kind of call, whether it was valid, the number
   pub MayRefuse : History C → Kind C → Bool → ℕ → Type 0
@@ -118,8 +118,9 @@ module _ {C : Type 0} (rules : Rules C) where
   Refusal h (complete d) n = (n ≡ 5) × (Has (d .id) (held h) → ⊥)
   Refusal h peek n = ⊥
   Refusal h checkpoint n = ⊥
+  -- a rollback that is not due may be refused
   Refusal h (rollback c js) n = n ≡ 9
-  -- nothing else is ever refused
+  -- nothing else is ever refused (of the packed ring: so no run has a reset of an end given its own)
   Refusal h other n = ⊥
   Refusal h foreign n = ⊥
 
@@ -168,6 +169,6 @@ module _ {C : Type 0} (rules : Rules C) where
   -- the completions that were returned are the first that were made, in order and each once, and this is the next one
   Right h (reclaimed d) = (later : List Done) × (comps h ≡ reclaims h ++ (d ∷ later))
   Right h (marked c) = Unit
-  -- the premise itself: it says something where the ring's callers were asked for less
+  -- it undid every poll since its checkpoint (of a ring whose rules ask just this of its callers, nothing new)
   Right h (rolled c js) = Undoes h c js
   Right h (unchanged u) = RightUnchanged h u

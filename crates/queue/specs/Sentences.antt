@@ -30,7 +30,7 @@ counted P (x ∷ xs) = cond (P x) (suc (counted P xs)) (counted P xs)
 
 -- ---- which publication a poll is of: the latest one that got its ID. The first publication of a history is number 0.
 
--- whether an item of that ID is in the list, and the place of the last one
+-- whether an item of that ID is in the list, and the place of the last one (0 where there is none)
 abbrev pub hasb : ℕ → List Item → Bool
 hasb x [] = false
 hasb x (y ∷ ys) = eqb (y .id) x || hasb x ys
@@ -133,7 +133,7 @@ module _ {C : Type 0} where
 
   -- ---- completions
 
-  -- "completions meet their own submissions": the j-th completion that poll_used returned is of the p-th submission, both counted from 0
+  -- completions meet their own submissions: the j-th completion that poll_used returned is of the p-th submission, both counted from 0
   pub record ItsOwn (h : History C) (j p : ℕ) : Type 0 where
     pub done : Done
     pub poll : Poll

@@ -1,5 +1,5 @@
 -- Wrong answers of single calls: a peek that always says no, a rollback that is never accepted, a poll that takes outputs that are too short, a completion
--- with another length or another chain's ID, a poll that hands out its elements in another order.
+-- with another length or another chain's ID, a poll that hands out its elements in another order or claims one too many.
 -- Assumes nothing.
 use Prim.Native.Nat.{ℕ, _+_, _-_}
 use mathlib.Core.Path.{_≡_, refl, sym, ap, subst}
@@ -7,11 +7,11 @@ use mathlib.Core.Logic.{inl, inr, ⊎-elim}
 use mathlib.Core.Bool.{Bool, true, false, false≢true}
 use mathlib.Core.List.{List, [], _∷_}
 use native.Mathlib.Omega.{arith}
-use lib.ListN.{length, getD}
+use lib.ListN.{length, getD, take}
 use Rattle.base.specs.Answer as answer
 use Rattle.cursor.specs.Cursor.{at}
 use Rattle.consumer.specs.declared.Checkpoint.{Checkpoint}
-use Rattle.queue.specs.History.{Item, Done, Event, History, pubs, polls, comps, reclaims, standing, waiting}
+use Rattle.queue.specs.History.{Item, Done, Event, History, slotsIn, pubs, polls, comps, reclaims, standing, waiting}
 use Rattle.queue.specs.History as said
 use Rattle.queue.specs.Promise.{plain, UndoesIntact, Each, MayFollow, Right}
 use Rattle.queue.specs.Machine.{historyOf}
@@ -163,6 +163,31 @@ not-its-elements f = omega (arith, ap firstAddr (f .1))
 pub reorders-broken : Broken reorders
 unfolding computing
 reorders-broken = broken reorders two-accepted poll (submit-both ∷ []) both-wait turned tt tt tt tt refl refl not-its-elements
+
+-- ---- THE WRONG RING: a poll that gives a chain claims one element more than it has: "element for element"
+
+abbrev pub overcounts : Ring
+overcounts =
+    withConsumer isPoll (λ c s r o.
+    record {
+      answer = answer.valued (getD (o .answer .values) 0 0 ∷ (getD (o .answer .values) 1 0 + 1) ∷ getD (o .answer .values) 2 0 ∷ []) (o .answer);
+      side = o .side;
+      ring = o .ring;
+      addrs = o .addrs;
+      lens = o .lens;
+    })
+
+-- both outputs are full, so what is claimed is in neither
+abbrev claimed : Event Checkpoint
+claimed = said.polled (item 1 (record { addrs = 4096 ∷ 8192 ∷ 0 ∷ []; lens = 16 ∷ 32 ∷ 0 ∷ []; readable = 1 }))
+
+one-too-many : Right (plain 2) both-wait claimed → ⊥
+unfolding pubs standing
+one-too-many f = omega (arith, ap (λ (l : List Item). slotsIn (take 1 l)) (f .1))
+
+pub overcounts-broken : Broken overcounts
+unfolding computing
+overcounts-broken = broken overcounts two-accepted poll (submit-both ∷ []) both-wait claimed tt tt tt tt refl refl one-too-many
 
 -- ---- THE WRONG RING: a poll takes outputs that are shorter than the ring, as if they had two entries: a call that is not valid is accepted
 

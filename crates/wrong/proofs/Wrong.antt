@@ -12,7 +12,7 @@ use Rattle.wrong.proofs.NextOnLast.{next-on-last, next-on-last-broken, 
 use Rattle.wrong.proofs.Skips.{skips, skips-broken}
 use Rattle.wrong.proofs.GivenAgain.{frees-last, frees-last-broken}
 use Rattle.wrong.proofs.Grows.{grows, grows-broken}
-use Rattle.wrong.proofs.Zeroes.{zeroes, zeroes-broken, zeroes-what-was-lent}
+use Rattle.wrong.proofs.Zeroes.{zeroes, zeroes-broken, zeroes-with-two-broken, zeroes-what-was-lent}
 use Rattle.wrong.proofs.Silent.{SilentDemand, silent-broken}
 use Rattle.wrong.proofs.Answers as answers
 
@@ -40,9 +40,10 @@ pub record Wrong : Type 0 where
   pub id-given-again : Demand frees-last → ⊥
   -- a record that grows at the first poll, so that ring-size outputs get 8
   pub grows-its-record : Demand grows → ⊥
-  -- 7 to a bad record, and the bytes lent with it zeroed: seen by the next poll, and at once
-  pub zeroes-the-bytes : Demand zeroes → ⊥
-  pub zeroes-at-once : Demand zeroes → ⊥
+  -- 7 to a bad record, and the bytes lent with it zeroed: seen by the next poll, and at once; the same with 2 for 7
+  pub zeroes-the-bytes : Demand (zeroes 7) → ⊥
+  pub zeroes-at-once : Demand (zeroes 7) → ⊥
+  pub zeroes-with-two : Demand (zeroes 2) → ⊥
   -- 'quiet' to everything
   pub says-nothing : SilentDemand → ⊥
   -- a peek that always says no; a rollback that is never accepted; a poll that takes outputs that are too short
@@ -53,6 +54,8 @@ pub record Wrong : Type 0 where
   pub another-length : Demand answers.longer → ⊥
   pub another-chain : Demand answers.swaps → ⊥
   pub another-order : Demand answers.reorders → ⊥
+  -- a poll that claims an element more than it gave
+  pub an-element-claimed : Demand answers.overcounts → ⊥
 
 pub wrong : Wrong
 wrong =
@@ -71,7 +74,8 @@ wrong =
       skips-one = refuted skips skips-broken;
       id-given-again = refuted frees-last frees-last-broken;
       grows-its-record = refuted grows grows-broken;
-      zeroes-the-bytes = refuted zeroes zeroes-broken;
+      zeroes-the-bytes = refuted (zeroes 7) zeroes-broken;
+      zeroes-with-two = refuted (zeroes 2) zeroes-with-two-broken;
       zeroes-at-once = zeroes-what-was-lent;
       says-nothing = silent-broken;
       peek-says-no = refuted answers.peeks-no answers.peeks-no-broken;
@@ -80,4 +84,5 @@ wrong =
       another-length = refuted answers.longer answers.longer-broken;
       another-chain = refuted answers.swaps answers.swaps-broken;
       another-order = refuted answers.reorders answers.reorders-broken;
+      an-element-claimed = refuted answers.overcounts answers.overcounts-broken;
     }
