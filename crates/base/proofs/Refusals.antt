@@ -9,7 +9,8 @@ use lib.Dec.{eqb}
 use lib.ListN.{getD}
 use borrow.Author.Tests.{lt-ltb, eqb-true, ne-eqb}
 use Rattle.base.specs.declared.RingError.{RingError}
-use Rattle.base.specs.declared.RingError.the-variants.{EmptyChain, BadChain, WouldBlock, OutOfMemory, InvalidState, InvalidLayout, BadRecord, BadLent, BadRollback}
+use Rattle.base.specs.declared.RingError.the-variants.{EmptyChain, BadChain, WouldBlock, OutOfMemory, InvalidState, InvalidLayout, BadRecord}
+use Rattle.base.specs.declared.RingError.the-variants.{BadLent, BadRollback}
 use Rattle.base.specs.declared.Reply.{Reply}
 use Rattle.base.specs.declared.Reply.the-variants.{Done, Refused}
 use Rattle.base.specs.Refusals.{numberOf, listed}

@@ -10,7 +10,8 @@ use native.Mathlib.Numerals.{add-one}
 use native.Mathlib.Nat.{add-zero, add-suc, suc-add}
 use lib.Dec.{leb}
 use lib.ListN.{length, getD, take, drop, set, replicate, length-take, length-drop, length-replicate, drop-of-length-le}
-use lib.Seq.{sets, sets-eq, take-suc, length-take-le, drop-set-lt, drop-set-add, take-set-le, drop-at, take-at, getD-take, getD-drop, length-sets, drop-cons}
+use lib.Seq.{sets, sets-eq, take-suc, length-take-le, drop-set-lt, drop-set-add, take-set-le, drop-at, take-at, getD-take, getD-drop, length-sets}
+use lib.Seq.{drop-cons}
 use borrow.Author.Tests.{le-leb, lt-leb}
 use Rattle.base.specs.Answer.{outcome, done, refused}
 use Rattle.base.specs.Bytes.{putOf, getOf}

@@ -3,7 +3,8 @@ use Prim.Native.Nat.{ℕ}
 use mathlib.Core.Bool.{cond, _&&_}
 use lib.Dec.{ltb}
 use Rattle.base.specs.declared.RingError.{RingError}
-use Rattle.base.specs.declared.RingError.the-variants.{EmptyChain, BadChain, WouldBlock, OutOfMemory, InvalidState, InvalidLayout, BadRecord, BadLent, BadRollback}
+use Rattle.base.specs.declared.RingError.the-variants.{EmptyChain, BadChain, WouldBlock, OutOfMemory, InvalidState, InvalidLayout, BadRecord}
+use Rattle.base.specs.declared.RingError.the-variants.{BadLent, BadRollback}
 
 -- the table's column "No."
 abbrev pub numberOf : RingError → ℕ

@@ -22,7 +22,8 @@ use Rattle.consumer.specs.Record.{badRecord, badLent}
 use Rattle.consumer.specs.Poll.{Taken, headRefusal, walkRefusal, pollRefusal, pastOf, polledOf, pollOf}
 use Rattle.consumer.specs.Fresh as taken
 use Rattle.converse.specs.Geometry.{Broken, Outside, InvalidLayout}
-use Rattle.converse.specs.Geometry.Broken.{no-slots, too-many, table-offset, driver-offset, device-offset, table-driver, table-device, driver-device}
+use Rattle.converse.specs.Geometry.Broken.{no-slots, too-many, table-offset, driver-offset, device-offset, table-driver, table-device}
+use Rattle.converse.specs.Geometry.Broken.{driver-device}
 use Rattle.converse.specs.Geometry.Outside.{table, driver, device}
 use Rattle.converse.specs.Chain.{slotFrom, Next, Writable, Readable, Indirect, IsChain, BadChain}
 use Rattle.converse.specs.Chain.BadChain.{indirect, readable-after-writable, next-still-set}
@@ -32,7 +33,8 @@ use Rattle.converse.proofs.Ladder.{false-not-true}
 use Rattle.converse.proofs.Walk.{chain-not-bad, one-chain}
 use Rattle.converse.proofs.Polls.{poll-7, poll-8, poll-3, poll-2, poll-5, poll-0}
 use Rattle.converse.proofs.Handed.{poll-hands-out}
-use Rattle.converse.proofs.Opening.{producer-invalid, producer-short, producer-opens, consumer-invalid, consumer-short, consumer-opens, layout-invalid, layout-opens}
+use Rattle.converse.proofs.Opening.{producer-invalid, producer-short, producer-opens, consumer-invalid, consumer-short, consumer-opens}
+use Rattle.converse.proofs.Opening.{layout-invalid, layout-opens}
 
 -- ---- the ring: 48 bytes of slots, and two event areas
 

@@ -12,7 +12,8 @@ use Rattle.layout.specs.declared.Layout.{Layout}
 use Rattle.layout.specs.Layout.{apart, tableBytes, badLayout, outside}
 use Rattle.layout.proofs.Laws.{Apart, Laid, laid, Within, within}
 use Rattle.converse.specs.Geometry.{Overlap, Broken, Outside, InvalidLayout}
-use Rattle.converse.specs.Geometry.Broken.{no-slots, too-many, table-offset, driver-offset, device-offset, table-driver, table-device, driver-device}
+use Rattle.converse.specs.Geometry.Broken.{no-slots, too-many, table-offset, driver-offset, device-offset, table-driver, table-device}
+use Rattle.converse.specs.Geometry.Broken.{driver-device}
 use Rattle.converse.specs.Geometry.Outside.{table, driver, device}
 use Rattle.converse.proofs.Ladder.{holds, either, or-is}
 

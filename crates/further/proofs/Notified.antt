@@ -61,7 +61,8 @@ use Rattle.packed.specs.Calls.{producerAsked, shouldNotifySince, turnUsed, enab
 use Rattle.packed.specs.Calls.{pollAvailable, submitUsed, submitUsedWithNotify, peekAvailable, pollCheckpoint, rollbackPolls}
 use Rattle.packed.specs.Calls.{consumerAsked, turnAvail, enableAvailDesc, enableAvailForNext, consumerReset}
 use Rattle.packed.specs.Calls.{byProducer, byConsumer, own, foreign}
-use Rattle.packed.specs.Machine.{World, Lendings, packed, checkpointIn, ownAnswer, callAnswer, placeOf, FairCall, callSays, leaves, producerDoes, consumerDoes}
+use Rattle.packed.specs.Machine.{World, Lendings, packed, checkpointIn, ownAnswer, callAnswer, placeOf, FairCall, callSays, leaves, producerDoes}
+use Rattle.packed.specs.Machine.{consumerDoes}
 use Rattle.packed.specs.Machine.{submitsOf, tellsOf, reclaimsOf, pollsOf, completesOf, completesTold, rollsOf}
 use Rattle.packed.specs.Opening.{Opening, openedWorld, machine, rules, Run, historyIn, worldIn}
 use Rattle.packed.proofs.Answers.{saysSubmitted, saysCompleted, afterMade, afterUsedTurn, afterAvailTurn, afterTaken, afterCompleted, afterRolled}

@@ -1,5 +1,5 @@
 -- "reset zeroes the table and the driver event, then everything is fresh"; "Its reset zeroes only the device event." Both ends
--- reset, each given its own: calls of the machine like any other. But a reset of an end given its own that is accepted is not fair (`fair`,
+-- reset, each given its own: calls of the machine like any other. But a reset of an end given its own that is accepted is not fair (`FairCall`,
 -- packed/specs/Machine.antt), and hence in no run; a run in which both ends are reset is two runs (further/proofs/Reset.antt).
 use mathlib.Core.Path.{_≡_}
 use mathlib.Core.List.{[]}

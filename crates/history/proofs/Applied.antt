@@ -60,7 +60,7 @@ pub first-poll : answer 2 (polls-for 3) ≡ said.unchanged (said.refused said.po
 unfolding pubs
 first-poll =
     tells 2 (byConsumer polls-three) tt refl
-    (λ z. absurd (demand 3 .oldest _ [] (until 2) (reads 2 (byConsumer polls-three) tt refl _ z) .1 .0))
+    (λ z. absurd (demand 3 .oldest _ [] (until 2) (reads 2 (byConsumer polls-three) tt refl _ z) .0))
     (λ n z. z ∙ ap (λ (m : ℕ). said.unchanged (said.refused said.poll true m))
     (demand 3 .blocks true n [] (until 2) (reads 2 (byConsumer polls-three) tt refl _ z)
     (not-so (forHanded n) (counts 2 (byConsumer polls-three) tt refl refl n z)) .0))

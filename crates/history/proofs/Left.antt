@@ -97,7 +97,7 @@ pub record Armed : Type 0 where
   pub told-of-g : tellsOf (armed-avail .producer) (armed-avail .ring) (g .chain) .answer ≡ answer.done (1 ∷ 1 ∷ [])
   -- g and h together pass it too
   pub told-since : usedNotices.sinceOf (after-10 .producer .end) (after-10 .ring) (at 0 false) ≡ answer.done (1 ∷ [])
-  -- the driver's at slot 0 in that round: the completion of g passes it, and that of h takes not
+  -- the driver's at slot 0 in that round: the completion of g passes it, and that of h does not
   pub driver-armed : getOf (armed-used .ring) 48 4 ≡ 0 ∷ 0 ∷ 2 ∷ 0 ∷ []
   pub told-of-completion : completesTold (armed-used .consumer) (armed-used .ring) 1 4 .answer ≡ answer.done (1 ∷ [])
   pub not-told-of-next : completesTold (after-11 .consumer) (after-11 .ring) 2 0 .answer ≡ answer.done (0 ∷ [])

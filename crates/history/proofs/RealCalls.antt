@@ -6,7 +6,7 @@ use mathlib.Core.Path.{_≡_, refl, sym, subst}
 use mathlib.Core.List.{List, [], _∷_}
 use mathlib.Core.Bool.{false}
 use native.Mathlib.Omega.{arith}
-use lib.ListN.{getD-replicate}
+use lib.ListN.{replicate, getD-replicate}
 use contract.Lifetimes.{Lfts}
 use denote.Ref.{RefT}
 use Rattle.base.specs.Answer as answer
@@ -37,9 +37,9 @@ use Rattle.packed.specs.Calls.{oneOf, its, another}
 use Rattle.packed.specs.Machine.{World, submitsOf, reclaimsOf, pollsOf, completesOf, packed}
 use Rattle.packed.specs.RealProducer as producer
 use Rattle.packed.specs.RealConsumer as consumer
-use Rattle.packed.specs.Real.{ProducerNew, ConsumerNew, RealCall, RealOpening, realOpened, realMachine, RealRun}
+use Rattle.packed.specs.Real.{ProducerNew, ConsumerNew, RealCall, RealOpening, realOpened, realMachine, RealRun, IsRun}
 use Rattle.packed.specs.Real.{producers, consumers, toAnotherProducer}
-use Rattle.packed.proofs.Real.{real-demand-3}
+use Rattle.packed.proofs.Real.{real-demand-3, real-is-run}
 use Rattle.history.proofs.Computing.{computing}
 use Rattle.history.proofs.Ends.{zeros, geometryOf, typed, ids-fit, nothing-asked, item, done}
 
@@ -67,8 +67,12 @@ producer-new =
       meets = producer-meets;
     }
 
+-- what the consumer's `new` finds in the ring is of no matter: here the bytes are not zero
+abbrev found : List ℕ
+found = replicate 40 1
+
 abbrev opens-consumer : taken.Open
-opens-consumer = taken.openOf 2 0 32 36 (zeros 40) (zeros 2)
+opens-consumer = taken.openOf 2 0 32 36 found (zeros 2)
 
 consumer-meets : taken.opened (taken.openedAnswer (takenOpened.Ring (taken.freshOf (geometryOf 2)))) (opens-consumer .counts) ≡ opens-consumer
 unfolding computing
@@ -78,9 +82,9 @@ abbrev consumer-new : ConsumerNew
 consumer-new =
     record {
       lifetimes = ([], ([], tt));
-      entry = (2, (0, (32, (36, (lent (zeros 40), (lent (zeros 2), tt))))));
+      entry = (2, (0, (32, (36, (lent found, (lent (zeros 2), tt))))));
       result = takenOpened.Ring (taken.freshOf (geometryOf 2));
-      exit = (2, (0, (32, (36, (lent (zeros 40), (lent (opens-consumer .counts), tt))))));
+      exit = (2, (0, (32, (36, (lent found, (lent (opens-consumer .counts), tt))))));
       meets = consumer-meets;
     }
 
@@ -271,3 +275,7 @@ completed-before = said.completed (done 1 5) ∷ said.unchanged (said.foreignAns
 
 its-own : (p : ℕ) × ItsOwnBefore completed-before (done 1 5) p
 its-own = real-promised .own-before (done 1 5) [] completed-before real-history
+
+-- and it is a run of the machine, with the same calls and answers
+its-run : IsRun whole
+its-run = real-is-run whole

@@ -461,7 +461,7 @@ asked-11 = ((((((((((asked-10, tt), tt), tt), tt), tt), tt), tt), tt), tt), tt)
 asked : Each (MayFollow rules-three) history
 asked = ((((((((((((asked-11, tt), tt), tt), tt), tt), tt), tt), tt), tt), tt), tt), tt)
 
--- ---- each call was fair to make: none is a reset of an end given its own, and each foreign one is refused with 6, 7 or 8
+-- ---- each call was fair to make: none is a reset of an end given its own, and each foreign one is refused
 
 fair-1 : FairCalls machine-three world-three calls-1
 fair-1 = ((((((tt, tt), tt), tt), tt), tt), tt)

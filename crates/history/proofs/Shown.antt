@@ -22,7 +22,7 @@ use Rattle.queue.proofs.Promises as shown
 use Rattle.packed.specs.Calls.{Given}
 use Rattle.packed.specs.Machine.{Lendings, leaves, keptIn}
 use Rattle.history.proofs.Ends.{world-three, strays, polls-for, done}
-use Rattle.history.proofs.Run.{a, b, c, d, e, f, g, h, i, c2, machine-three, rules-three, calls, answers, promised}
+use Rattle.history.proofs.Run.{a, b, c, d, e, f, g, h, i, c2, machine-three, rules-three, calls, answers, promised, undoes-two}
 use Rattle.history.proofs.Run.{poll-used-of-another, poll-over-others, open-producer, open-consumer, reset-producer, reset-consumer}
 use Rattle.history.proofs.Points.{until, later, callsTo, world, demand, answered, spoken}
 
@@ -31,31 +31,12 @@ use Rattle.history.proofs.Points.{until, later, callsTo, world, demand,
 -- `oldest`: the poll after the rollback gave a, publication 0, of which no poll stood
 pub again-the-oldest : Oldest (until 10) a 0
 unfolding pubs
-again-the-oldest = let k = promised .oldest a (later 11) (until 10) answers in go (k .0) (k .1)
-  where
-    go : (j : ℕ) → Oldest (until 10) a j → Oldest (until 10) a 0
-    go zero o = o
-    go (suc j) o = absurd (o .0)
-
--- the address of a chain's first element
-addr : Item → ℕ
-addr x = getD (x .chain .addrs) 0 0
+again-the-oldest = promised .oldest a (later 11) (until 10) answers
 
 -- `oldest`: g and h were both undone; the next poll gave g, publication 6, of which no poll stood, and of each of the six older ones a poll did
 pub g-again : Oldest (until 57) g 6
-unfolding pubs addr
-g-again = let k = promised .oldest g (later 58) (until 57) answers in go (k .0) (k .1)
-  where
-    go : (j : ℕ) → Oldest (until 57) g j → Oldest (until 57) g 6
-    go zero o = absurd (omega (arith, ap addr (o .0)))
-    go (suc zero) o = absurd (omega (arith, ap addr (o .0)))
-    go (suc (suc zero)) o = absurd (omega (arith, ap addr (o .0)))
-    go (suc (suc (suc zero))) o = absurd (omega (arith, ap addr (o .0)))
-    go (suc (suc (suc (suc zero)))) o = absurd (omega (arith, ap addr (o .0)))
-    go (suc (suc (suc (suc (suc zero))))) o = absurd (omega (arith, ap addr (o .0)))
-    go (suc (suc (suc (suc (suc (suc zero)))))) o = o
-    go (suc (suc (suc (suc (suc (suc (suc zero))))))) o = absurd (omega (arith, ap addr (o .0)))
-    go (suc (suc (suc (suc (suc (suc (suc (suc j)))))))) o = absurd (o .0)
+unfolding pubs
+g-again = promised .oldest g (later 58) (until 57) answers
 
 -- `blocks`: when the fourth poll blocked, of each of the five publications a poll stood
 pub all-stand : (j : ℕ) → j < 5 → Stands (until 33) j
@@ -149,66 +130,23 @@ three-out = shown.never-over machine-three rules-three world-three calls promise
 
 -- ---- rollbacks
 
--- of polls up to number m none came after it
-none-after : (m : ℕ) (l : List Poll) → All (λ p. p .no ≤ m) l → said.after m l ≡ []
-none-after m [] t = refl
-none-after m (p ∷ ps) t = simp (le-leb (p .no) m (t .0)) (none-after m ps (t .1))
-
-past-all : (m : ℕ) → 9 ≤ m → ((y : ℕ) → times y (2 ∷ 1 ∷ []) ≡ times y (ids (said.after m (standing (until 56))))) → ⊥
-unfolding standing polls
-past-all m l n = omega (arith, n 1 ∙ ap (λ (ps : List Poll). times 1 (ids ps)) (none-after m (standing (until 56)) all))
-  where
-    up : (n : ℕ) → T (leb n 9) → n ≤ m
-    up n t = omega (arith, l, leb→le n 9 t)
-
-    all : All (λ p. p .no ≤ m) (standing (until 56))
-    all = (up 2 tt, (up 3 tt, (up 4 tt, (up 5 tt, (up 6 tt, (up 7 tt, (up 8 tt, (up 9 tt, tt))))))))
-
--- of the polls after any of them, only those after number 7 are of ID 2 and ID 1, once each: g's and h's. Up to it those stand that stood at the
--- checkpoint, and none is held
-abbrev TheTwo : ℕ → Type 0
-TheTwo m =
-    (items (said.after m (standing (until 56))) ≡ g ∷ h ∷ [])
-    × ((said.upto m (standing (until 56)) ≡ standing (until 53))
-    × (said.upto m (held (until 56)) ≡ []))
-
-names-two : (m : ℕ) → ((y : ℕ) → times y (2 ∷ 1 ∷ []) ≡ times y (ids (said.after m (standing (until 56))))) → TheTwo m
-unfolding standing held polls
-names-two zero n = absurd (omega (arith, n 1))
-names-two (suc zero) n = absurd (omega (arith, n 1))
-names-two (suc (suc zero)) n = absurd (omega (arith, n 1))
-names-two (suc (suc (suc zero))) n = absurd (omega (arith, n 1))
-names-two (suc (suc (suc (suc zero)))) n = absurd (omega (arith, n 1))
-names-two (suc (suc (suc (suc (suc zero))))) n = absurd (omega (arith, n 1))
-names-two (suc (suc (suc (suc (suc (suc zero)))))) n = absurd (omega (arith, n 1))
-names-two (suc (suc (suc (suc (suc (suc (suc zero))))))) n = (refl, (refl, refl))
-names-two (suc (suc (suc (suc (suc (suc (suc (suc zero)))))))) n = absurd (omega (arith, n 1))
-names-two (suc (suc (suc (suc (suc (suc (suc (suc (suc m))))))))) n =
-    absurd (past-all (suc (suc (suc (suc (suc (suc (suc (suc (suc m))))))))) (omega arith) n)
-
-undone : (u : Undoes (until 56) c2 (2 ∷ 1 ∷ [])) × RolledBack (until 56) c2 (2 ∷ 1 ∷ []) u
-undone = promised .rollbacks c2 (2 ∷ 1 ∷ []) (later 57) (until 56) answers
-
-the-two : TheTwo (polls (undone .0 .before))
-the-two = names-two (polls (undone .0 .before)) (undone .0 .names)
-
-none-waited : waiting (until 56) ≡ []
-unfolding pubs standing
-none-waited = refl
+-- the polls since c2's checkpoint, which was taken after seven polls, are g's and h's (Run.antt `undoes-two`)
+undone : RolledBack (until 56) c2 (2 ∷ 1 ∷ []) (undoes-two .undoes)
+undone = promised .rollbacks c2 (2 ∷ 1 ∷ []) (later 57) (until 56) answers .1 (undoes-two .undoes)
 
 -- `rollbacks`: the rollback that names h and g undid these two, and they wait again, the older one first
 pub wait-again : waiting (until 57) ≡ g ∷ h ∷ []
-wait-again =
-    undone .1 .wait-again
-    ∙ (ap (λ (l : List Item). items (said.after (polls (undone .0 .before)) (standing (until 56))) ++ l) none-waited
-    ∙ ap (λ (l : List Item). l ++ []) (the-two .0))
+unfolding undoes-two polls pubs standing
+wait-again = undone .wait-again
 
 -- no other poll was undone: after it the polls stand that stood at its checkpoint, and none is held
 pub stand-again : standing (until 57) ≡ standing (until 53)
-stand-again = undone .1 .stand ∙ the-two .1 .0
+unfolding undoes-two polls standing
+stand-again = undone .stand
 
 pub none-held-again : held (until 57) ≡ []
-none-held-again = undone .1 .still-held ∙ the-two .1 .1
+unfolding undoes-two polls held standing
+none-held-again = undone .still-held
 
 -- ---- "Calls refused for bad records or buffers aren't counted"
 
@@ -230,27 +168,36 @@ pub short-outputs-left : machine-three .exit (world 9) (polls-for 2) ≡ machine
 unfolding latest
 short-outputs-left = left 9 (polls-for 2) refl refl tt
 
--- each of the six foreign calls: what was another's, and what was the end's own; so both ends and the bytes are as they were
+-- `unharmed`: each of the six foreign calls was refused, and both ends and the bytes are as they were
+harms-none :
+    (k : ℕ) (x : Given) → callsTo (suc k) ≡ x ∷ callsTo k → calls ≡ take (79 - suc k) calls ++ (x ∷ callsTo k)
+    → machine-three .request x .kind ≡ said.foreign → (numberOf (latest (until (suc k))) ≡ 0 → ⊥) → world (suc k) ≡ world k
+unfolding latest worldOf
+harms-none k x here there f t =
+    ap (worldOf machine-three world-three) here
+    ∙ promised .unharmed (take (79 - suc k) calls) (callsTo k) x there f
+    (λ z. t (ap (λ (v : History Checkpoint). numberOf (latest v)) (sym (sym (answered k x here) ∙ spoken (suc k))) ∙ z))
+
 pub another-record-left : world 35 ≡ world 34
-unfolding latest worldOf leaves
-another-record-left = ap (λ (l : Lendings). keptIn (world 34) poll-used-of-another (l .world)) (left 34 (strays poll-used-of-another) refl refl tt)
+unfolding latest
+another-record-left = harms-none 34 (strays poll-used-of-another) refl refl refl (λ z. omega (arith, z))
 
 pub other-bytes-left : world 36 ≡ world 35
-unfolding latest worldOf leaves
-other-bytes-left = ap (λ (l : Lendings). keptIn (world 35) poll-over-others (l .world)) (left 35 (strays poll-over-others) refl refl tt)
+unfolding latest
+other-bytes-left = harms-none 35 (strays poll-over-others) refl refl refl (λ z. omega (arith, z))
 
 pub new-producer-left : world 37 ≡ world 36
-unfolding latest worldOf leaves
-new-producer-left = ap (λ (l : Lendings). keptIn (world 36) open-producer (l .world)) (left 36 (strays open-producer) refl refl tt)
+unfolding latest
+new-producer-left = harms-none 36 (strays open-producer) refl refl refl (λ z. omega (arith, z))
 
 pub new-consumer-left : world 38 ≡ world 37
-unfolding latest worldOf leaves
-new-consumer-left = ap (λ (l : Lendings). keptIn (world 37) open-consumer (l .world)) (left 37 (strays open-consumer) refl refl tt)
+unfolding latest
+new-consumer-left = harms-none 37 (strays open-consumer) refl refl refl (λ z. omega (arith, z))
 
 pub producer-reset-left : world 39 ≡ world 38
-unfolding latest worldOf leaves
-producer-reset-left = ap (λ (l : Lendings). keptIn (world 38) reset-producer (l .world)) (left 38 (strays reset-producer) refl refl tt)
+unfolding latest
+producer-reset-left = harms-none 38 (strays reset-producer) refl refl refl (λ z. omega (arith, z))
 
 pub consumer-reset-left : world 40 ≡ world 39
-unfolding latest worldOf leaves
-consumer-reset-left = ap (λ (l : Lendings). keptIn (world 39) reset-consumer (l .world)) (left 39 (strays reset-consumer) refl refl tt)
+unfolding latest
+consumer-reset-left = harms-none 39 (strays reset-consumer) refl refl refl (λ z. omega (arith, z))

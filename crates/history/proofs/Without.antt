@@ -203,7 +203,7 @@ between-promised =
           };
     })
 
--- ---- (c) "with no completion between": completions of exactly twice the ring's size, after which the ring takes not refuse it
+-- ---- (c) "with no completion between": completions of exactly twice the ring's size, after which the ring does not refuse it
 
 -- a checkpoint of the fresh ring. A chain of two and a chain of one are polled and completed. p and q are polled and q is completed: four
 -- slots in all, and the used cursor is where it was. p alone is held, and the rollback names it

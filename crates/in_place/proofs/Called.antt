@@ -16,7 +16,8 @@ use prog.Routine.{Routine}
 use prog.Wp.{Heap}
 use ghost.Atoms.{Atoms, sem}
 use contract.Monad.{Fun, fact}
-use types.Kit.{Given, ‵, raw, some, later, _⊛_, _$_, _∵_, !, qed, move, keep, use1, split, join, pick, fsplit, fjoin, frame, await, updating, now as at-once, show, check, done}
+use types.Kit.{Given, ‵, raw, some, later, _⊛_, _$_, _∵_, !, qed, move, keep, use1, split, join, pick, fsplit, fjoin, frame, await, updating}
+use types.Kit.{now as at-once, show, check, done}
 use denote.Laws.{Is, shows}
 use denote.Plain.{uint-makes}
 use denote.Builtin.{u8, u16}

@@ -19,7 +19,8 @@ use Rattle.queue.specs.History as said
 use Rattle.queue.specs.Says.{says}
 use Rattle.queue.proofs.Says.{says-refused}
 use Rattle.packed.specs.Calls.{asks, validChain, validOutputs, validCheckpoint}
-use Rattle.packed.specs.Machine.{World, ProducerLeaves, ConsumerLeaves, checkpointIn, afterProducer, afterConsumer, madeAll, madeChanged, takenChain, takenAll, takenBack, takenChanged}
+use Rattle.packed.specs.Machine.{World, ProducerLeaves, ConsumerLeaves, checkpointIn, afterProducer, afterConsumer, madeAll, madeChanged}
+use Rattle.packed.specs.Machine.{takenChain, takenAll, takenBack, takenChanged}
 
 -- ---- the event of each kind of call, by its answer
 
@@ -103,8 +104,3 @@ pub and-false : (a b : Bool) → not a || not b ≡ true → a && b ≡ false
 and-false true true h = sym h
 and-false true false h = refl
 and-false false b h = refl
-
-pub not-and : (a b : Bool) → a && b ≡ false → not a || not b ≡ true
-not-and true true h = sym h
-not-and true false h = refl
-not-and false b h = refl

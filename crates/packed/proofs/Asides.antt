@@ -44,7 +44,8 @@ use Rattle.packed.specs.Machine.{World}
 use Rattle.packed.proofs.Answers.{saysQuiet, afterUsedTurn, afterAvailTurn, read-refused}
 use Rattle.packed.proofs.Position.{pos, pos-low}
 use Rattle.packed.proofs.Counts.{Used}
-use Rattle.packed.proofs.Invariant.{Like, Good, good-by, big, p-size, p-sound, p-whole, p-lent, c-sound, c-whole, c-lent, with-shadows, like-unchanged, like-same}
+use Rattle.packed.proofs.Invariant.{Like, Good, good-by, big, p-size, p-sound, p-whole, p-lent, c-sound, c-whole, c-lent, with-shadows}
+use Rattle.packed.proofs.Invariant.{like-unchanged, like-same}
 
 module _ (l : Layout) (laid-out : badLayout l ≡ false) where
   abbrev size : ℕ
@@ -114,7 +115,7 @@ module _ (l : Layout) (laid-out : badLayout l ≡ false) where
         like-same l laid-out ret w q k s t r (a .same-length)
         (λ p. sym (slot-by-bytes (l .table) (pos size p) r (w .ring) (a .clear (placeOf (l .table) (pos size p)) 16 (event-clear at p apart))))
 
-    -- a call of either end whose outcome o is x, answered, with a world behind it that is like the queue
+    -- a call of either end whose outcome o is x, answered, with a world after it that is like the queue
     module _ {O : Type 0} (answerOf : O → Answer) (behind : O → World) where
       outcome-good : (o x : O) → o ≡ x → answerOf x ≡ done [] → Like l ret (behind x) q → Good l q (saysQuiet true (answerOf o)) (behind o)
       outcome-good o x e d m =

@@ -37,7 +37,9 @@ use Rattle.packed.specs.Calls.{asks}
 use Rattle.packed.specs.Machine.{World, afterConsumer}
 use Rattle.packed.proofs.Answers.{saysCompleted, afterCompleted, read-refused}
 use Rattle.packed.proofs.Position.{pos, round, view, pos-add, pos-low, apart}
-use Rattle.packed.proofs.Counts.{Held, Used, ofItems, hit, occ, slots, tot, Pos, hit-same, hit-other, occ-some, slots-none, one-le, one-no, at-clear, Out1, take-out, both-tot, both-occ, both-slots, both-pos, tot-used, occ-used, slots-used, used-pos, dones-append, has-of-occ}
+use Rattle.packed.proofs.Counts.{Held, Used, ofItems, hit, occ, slots, tot, Pos, hit-same, hit-other, occ-some, slots-none, one-le, one-no}
+use Rattle.packed.proofs.Counts.{at-clear, Out1, take-out, both-tot, both-occ, both-slots, both-pos, tot-used, occ-used, slots-used, used-pos}
+use Rattle.packed.proofs.Counts.{dones-append, has-of-occ}
 use Rattle.packed.proofs.Spells.{Spells, Returns, spells-cong, spells-split, returns-cong, returns-append}
 use Rattle.packed.proofs.Invariant.{FineItem, fine-pos, O, F, CheckOk, Like, Good, good-by, big, c-size, c-sound, c-lent, like-unchanged}
 

@@ -22,7 +22,7 @@ use Rattle.queue.specs.History.{Item, Event, History, Unchanged, slotsIn, items
 use Rattle.queue.specs.History as said
 use Rattle.queue.specs.Promise.{Fine, plain}
 use Rattle.queue.specs.Sentences.{All}
-use Rattle.queue.proofs.Model.{Queue, Mark, next, looking, Ok}
+use Rattle.queue.proofs.Model.{Queue, Mark, next, promisedBy, Ok}
 use Rattle.packed.specs.Machine.{World}
 use Rattle.packed.proofs.Position.{pos, round, view, pos-low, view-around, round-around}
 use Rattle.packed.proofs.Counts.{Held, Used, ofItems, ofUsed, dones, occS, occ, slots, tot, Pos, one, slots-tot}
@@ -283,6 +283,6 @@ module _ (l : Layout) where
       like-marks ps ms x c = like-with (w .producer .end .shadow) (w .consumer .end .shadow) (w .ring) refl (λ p. refl) ps ms x c
 
       -- an answer that changes nothing: the queue after it is the same, but for what next_id promised
-      pub like-unchanged : (a : Unchanged Checkpoint) → ((i : ℕ) → looking q a ≡ i ∷ [] → (0 < w .producer .end .height) × (topOf (w .producer .end) (w .producer .ids) ≡ i)) → Like ret w (next q (said.unchanged a))
+      pub like-unchanged : (a : Unchanged Checkpoint) → ((i : ℕ) → promisedBy q a ≡ i ∷ [] → (0 < w .producer .end .height) × (topOf (w .producer .end) (w .producer .ids) ≡ i)) → Like ret w (next q (said.unchanged a))
       unfolding next
-      like-unchanged a f = like-marks (looking q a) (q .marks) f (k .checks)
+      like-unchanged a f = like-marks (promisedBy q a) (q .marks) f (k .checks)

@@ -112,7 +112,7 @@ pub total-polls : (t : List ℕ) (ps : List Poll) → All (λ (p : Poll). getD t
 total-polls t [] h = total-none t
 total-polls t (p ∷ ps) h = total-cons t (p .item .id) (ids ps) ∙ omega (arith, h .0, total-polls t ps (h .1))
 
--- ---- the entries behind it
+-- ---- the entries after it
 pub cleared-at : (t js : List ℕ) (y : ℕ) → y < length t → ((times y js ≡ 0 → ⊥) → getD (clearedOf t js) y 0 ≡ 0) × (times y js ≡ 0 → getD (clearedOf t js) y 0 ≡ getD t y 0)
 cleared-at t js y b = (
   (λ n. cleared-named t js y b (named-is y js (omega (arith, n)))),

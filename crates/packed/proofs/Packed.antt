@@ -16,7 +16,7 @@ use Rattle.queue.specs.Promise.{plain, forHanded, MayFollow}
 use Rattle.queue.specs.Machine.{numberOf, OfKind}
 use Rattle.queue.specs.Demand.{Premise, Demand3}
 use Rattle.queue.proofs.Model.{Queue, start, model, next, AllOk}
-use Rattle.queue.proofs.Trace.{undo-of, undo-all-of}
+use Rattle.queue.proofs.Trace.{undo-of, undo-intact-of}
 use Rattle.queue.proofs.Machine.{Matches, matched, demanded, premise-drop}
 use Rattle.queue.proofs.Says.{says-number, says-kind}
 use Rattle.packed.specs.Calls.{ProducerCall, ConsumerCall, Own, Call, Given, TypedProducer, TypedConsumer, TypedCall, oneOf, requestOf}
@@ -25,7 +25,8 @@ use Rattle.packed.specs.Calls.{producerAsked, shouldNotifySince, turnUse
 use Rattle.packed.specs.Calls.{pollAvailable, submitUsed, submitUsedWithNotify, peekAvailable, pollCheckpoint, rollbackPolls}
 use Rattle.packed.specs.Calls.{consumerAsked, turnAvail, enableAvailDesc, enableAvailForNext, consumerReset}
 use Rattle.packed.specs.Calls.{byProducer, byConsumer, own, foreign}
-use Rattle.packed.specs.Machine.{World, checkpointIn, producerValues, consumerValues, packed, machineOf, FairCall, callSays, leaves, givenIn, placeOf}
+use Rattle.packed.specs.Machine.{World, checkpointIn, producerValues, consumerValues, packed, machineOf, FairCall, callSays, leaves, givenIn}
+use Rattle.packed.specs.Machine.{placeOf}
 use Rattle.packed.specs.Machine.{ownAnswer, ownExit, callAnswer, callEntry, callExit, producerDoes, consumerDoes}
 use Rattle.packed.specs.Opening.{Opening, openedWorld, machine, rules, Run, historyIn, worldIn, Demand}
 use Rattle.packed.proofs.Invariant.{Match, Good, GoodAfter, like-unchanged}
@@ -79,7 +80,7 @@ module _ (l : Layout) (good : badLayout l ≡ false) where
     consumer-good w peekAvailable t m f p = after-any _ _ (peek-good l good (m .0) w (model h) (m .1))
     consumer-good w pollCheckpoint t m f p = after-any _ _ (mark-good l good (m .0) w (model h) (m .1))
     consumer-good w (rollbackPolls c js) t m f p =
-        roll-good l good (m .0) w (model h) (m .1) c js h (undo-all-of (plain size) h ok c js)
+        roll-good l good (m .0) w (model h) (m .1) c js h (undo-intact-of (plain size) h ok c js)
         (λ e. undo-of (plain size) h ok c js (subst (MayFollow (plain size) h) (sym e) p))
     consumer-good w (consumerAsked x) t m f p = after-any _ _ (consumer-asked l good (m .0) w (model h) (m .1) (consumerValues x (w .consumer .end)))
     consumer-good w (turnAvail x) t m f p = after-any _ _ (turn-avail-good l good (m .0) w (model h) (m .1) x)
@@ -125,7 +126,8 @@ call-unharmed size w (foreign x) f k = foreign-leaves w x (not-zero _ f)
 
 -- ---- the promise
 
--- two ends that are like an empty queue, in a geometry that is taken: fresh ones are, and so is whatever keeps of an earlier run what no call looks at
+-- two ends that are like an empty queue (Invariant.antt `Match`), in a geometry that is taken. Fresh ones are; of the bytes outside the table, and of the
+-- tables' first contents, `Match` says nothing
 module _ (l : Layout) (good : badLayout l ≡ false) (w : World) (empty : Match l w start) where
   matches : Matches (machineOf packed (l .size)) (plain (l .size)) w
   matches =

@@ -39,7 +39,8 @@ use Rattle.packed.specs.Calls.{asks, validOutputs}
 use Rattle.packed.specs.Machine.{World, checkpointIn, afterConsumer}
 use Rattle.packed.proofs.Answers.{saysPolled, saysPeeked, afterTaken, and-true, and-false}
 use Rattle.packed.proofs.Position.{round, view, pos-add}
-use Rattle.packed.proofs.Counts.{Used, ofItems, hit, occ, slots, tot, hit-same, slots-none, one-le, one-low, tot-poll, occ-poll, slots-poll, at-set}
+use Rattle.packed.proofs.Counts.{Used, ofItems, hit, occ, slots, tot, hit-same, slots-none, one-le, one-low, tot-poll, occ-poll, slots-poll}
+use Rattle.packed.proofs.Counts.{at-set}
 use Rattle.packed.proofs.Spells.{Spells, elementAt, spells-split}
 use Rattle.packed.proofs.Invariant.{FineItem, O, F, W, Like, Good, good-by, free-slots, c-size, c-sound, c-lent, c-whole, edge, like-unchanged}
 
@@ -163,7 +164,7 @@ module _ (l : Layout) (laid-out : badLayout l ≡ false) where
         fits : w .consumer .end .inflight + n ≤ size
         fits = omega (arith, k .inflight, tot-w, free-slots l laid-out ret w q k, k .out-tot)
 
-        -- the world behind the poll
+        -- the world after the poll
         abbrev polled-world : World
         polled-world =
             afterConsumer w

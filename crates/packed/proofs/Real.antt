@@ -274,7 +274,7 @@ real-is-run r =
             calls = cs;
             premise = subst (λ (w : World). Premise m (plain (openedSize o)) w cs) (sym e) p;
           };
-      geometry = refl;
+      opened = e;
       calls = given-are o (r .calls) f;
       answers = answers-agree (openedSize o) (realOpened o) (r .calls) f;
       history = ap (λ (w : World). historyOf m w cs) e ∙ same-history o (r .calls) f;

@@ -32,7 +32,8 @@ use Rattle.packed.specs.Calls.{asks}
 use Rattle.packed.specs.Machine.{World, afterProducer}
 use Rattle.packed.proofs.Answers.{saysReclaimed, afterMade, read-refused}
 use Rattle.packed.proofs.Position.{round, view, pos-add}
-use Rattle.packed.proofs.Counts.{Used, ofItems, ofUsed, dones, hit, occS, occ, slots, tot, hit-same, slots-none, one-le, one-low, at-clear, OutItem, item-out, occ-push}
+use Rattle.packed.proofs.Counts.{Used, ofItems, ofUsed, dones, hit, occS, occ, slots, tot, hit-same, slots-none, one-le, one-low, at-clear}
+use Rattle.packed.proofs.Counts.{OutItem, item-out, occ-push}
 use Rattle.packed.proofs.Invariant.{O, F, W, Like, Good, good-by, p-size, p-sound, p-lent, edge, like-unchanged}
 
 module _ (l : Layout) (laid-out : badLayout l ≡ false) where

@@ -37,11 +37,13 @@ use Rattle.packed.specs.Calls.{asks, validCheckpoint}
 use Rattle.packed.specs.Machine.{World, afterConsumer}
 use Rattle.packed.proofs.Answers.{saysRolled, saysMarked, afterRolled, read-refused, and-true}
 use Rattle.packed.proofs.Position.{pos, view, pos-add, pos-low}
-use Rattle.packed.proofs.Counts.{Used, ofItems, occ, slots, tot, Pos, one-le, one-low, hit-same, slots-none, both-tot, both-occ, both-slots, items-tot, items-occ, items-slots}
+use Rattle.packed.proofs.Counts.{Used, ofItems, occ, slots, tot, Pos, one-le, one-low, hit-same, slots-none, both-tot, both-occ, both-slots}
+use Rattle.packed.proofs.Counts.{items-tot, items-occ, items-slots}
 use Rattle.packed.proofs.Spells.{Spells}
 use Rattle.packed.proofs.Named.{occ-times, none-bad, same-total, own-slots, total-polls, cleared-at}
 use Rattle.packed.proofs.Completes.{occ-slots}
-use Rattle.packed.proofs.Invariant.{FineItem, fine-pos, O, F, CheckOk, Like, Good, GoodAfter, good-by, good-after-by, big, c-size, c-sound, like-marks, like-unchanged}
+use Rattle.packed.proofs.Invariant.{FineItem, fine-pos, O, F, CheckOk, Like, Good, GoodAfter, good-by, good-after-by, big, c-size, c-sound}
+use Rattle.packed.proofs.Invariant.{like-marks, like-unchanged}
 
 module _ (l : Layout) (laid-out : badLayout l ≡ false) where
   abbrev size : ℕ
@@ -199,14 +201,14 @@ module _ (l : Layout) (laid-out : badLayout l ≡ false) where
             ∙ ap₂ (λ (m : ℕ) (x : RingCursor). steps m (totalOf (w .consumer .counts) js) x) (sym (c-size l laid-out ret w q k))
             (sym (sym (ap (λ (x : Checkpoint). x .avail) v) ∙ c .1 .1 ∙ ap (λ (x : Checkpoint). pos size (k .cu + x .inflight)) v)))
 
-        -- the world behind an accepted rollback
+        -- the world after an accepted rollback
         abbrev cons′ : RingConsumer
         cons′ = record { layout = w .consumer .end .layout; avail = cp .avail; used = w .consumer .end .used; inflight = cp .inflight; shadow = w .consumer .end .shadow }
 
         abbrev roll-world : World
         roll-world = afterConsumer w (record { end = cons′; counts = clearedOf (w .consumer .counts) js }) (w .ring)
 
-        -- the queue behind it
+        -- the queue after it
         abbrev q′ : Queue Checkpoint
         q′ =
             record { waiting = items back ++ q .waiting; old = q .old; fresh = up; done = q .done; out = q .out; promised = q .promised; polls = q .polls; comps = q .comps; since = q .since; marks = q .marks }
@@ -315,8 +317,8 @@ module _ (l : Layout) (laid-out : badLayout l ≡ false) where
             (ret, like-unchanged l laid-out ret w q k (said.refused (said.rollback cp js) true 9) (k .promise)),
           ))
           (λ fine.
-          let behind : RingConsumer = record { layout = w .consumer .end .layout; avail = cp .avail; used = w .consumer .end .used; inflight = cp .inflight; shadow = w .consumer .end .shadow } in
-          let e : rolls ≡ rolled (done []) behind (clearedOf (w .consumer .counts) js) = rollback-done (w .consumer .end) (w .consumer .counts) cp js z fine ∙ ap (λ (x : RingConsumer). rolled (done []) x (clearedOf (w .consumer .counts) js)) (back-is (w .consumer .end) cp) in
+          let after-it : RingConsumer = record { layout = w .consumer .end .layout; avail = cp .avail; used = w .consumer .end .used; inflight = cp .inflight; shadow = w .consumer .end .shadow } in
+          let e : rolls ≡ rolled (done []) after-it (clearedOf (w .consumer .counts) js) = rollback-done (w .consumer .end) (w .consumer .counts) cp js z fine ∙ ap (λ (x : RingConsumer). rolled (done []) x (clearedOf (w .consumer .counts) js)) (back-is (w .consumer .end) cp) in
           let says : saysRolled size cp js (rolls .answer) ≡ said.rolled cp js = ap (λ (o : Rolled). saysRolled size cp js (o .answer)) e in
           let u = grant (sym says) in
           good-after-by l h q _ (said.rolled cp js) _ (roll-world u) says (ap (afterRolled w) e)

@@ -1,4 +1,4 @@
--- submit_available, submit_one and both with notify: a chain is published behind those that wait, or refused with 1, 3 or 8.
+-- submit_available, submit_one and both with notify: a chain is published after those that wait, or refused with 1, 3 or 8.
 -- Assumes nothing.
 use Prim.Native.Nat.{ℕ, _+_, _-_, _≤_, _<_}
 use mathlib.Core.Path.{_≡_, refl, sym, ap, ap₂, _∙_, subst}
@@ -26,7 +26,8 @@ use Rattle.producer.specs.Submit.{topOf, submitRefusal, elementOf, Written, put
 use Rattle.producer.proofs.Submit.{submit-refused, submit-done}
 use Rattle.producer.proofs.Frame.{chain-past}
 use Rattle.producer.proofs.Touch.{submit-length, submit-keep}
-use Rattle.producer.proofs.Goes.{submit-bad-chain, submit-empty, submit-blocks, submit-goes, submitted-is, taken-is, tell-number, tell-value, tell-leaves}
+use Rattle.producer.proofs.Goes.{submit-bad-chain, submit-empty, submit-blocks, submit-goes, submitted-is, taken-is, tell-number, tell-value}
+use Rattle.producer.proofs.Goes.{tell-leaves}
 use Rattle.consumer.specs.declared.Checkpoint.{Checkpoint}
 use Rattle.back.proofs.Back.{Stands, written}
 use Rattle.queue.specs.History.{Chain, Item, items}

@@ -16,8 +16,8 @@ use Rattle.packed.specs.Machine.{World, Ring, ProducerOpens, ConsumerOpe
 module _ (R : Ring) where
   -- what the two `new` are given. Both are accepted: any geometry that they take, with tables of any first contents and any length that they take.
   -- "Over one zeroed ring": the descriptor table is zero at first (a zeroed ring is so; that other bytes are zero is not asked). An end may be opened
-  -- when the other has already written: of the bytes that its `new` finds, only the length is asked. (Which openings the packed ring accepts, exactly:
-  -- crate `converse`.)
+  -- when the other has already written: of the bytes that its `new` finds, only the length is asked. (Which openings the packed ring accepts,
+  -- exactly: crate `converse`.)
   pub record Opening : Type 0 where
     pub geometry : Layout
     pub ring : List ℕ

@@ -26,7 +26,7 @@ use Rattle.packed.specs.Calls.{Lent, LentProducer, LentConsumer, Call, G
 use Rattle.packed.specs.Calls.{byProducer, byConsumer, toProducer, toConsumer, newProducer, newConsumer, own, foreign}
 use Rattle.packed.specs.Machine.{World, Lendings, lendings, addrsLent, lensLent, placeOf, keptOf, FairCall, saysOf}
 use Rattle.packed.specs.Machine.{afterProducer, afterConsumer, packed, callAnswer}
-use Rattle.packed.specs.Opening.{Run, historyIn, worldIn}
+use Rattle.packed.specs.Opening.{openedWorld, Run, historyIn, worldIn}
 use Rattle.packed.specs.RealProducer.{RealProducer}
 use Rattle.packed.specs.RealProducer as producer
 use Rattle.packed.specs.RealConsumer.{RealConsumer}
@@ -138,7 +138,7 @@ lensOut (opensConsumer k b m) = []
 -- ---- the machine of real calls
 
 -- "each end given back its own last record and tables": the call was lent what is in its place. Its arguments are of their types; and the rest as in
--- Machine.antt: no reset that is accepted, no foreign call but one that is refused for what it was handed
+-- Machine.antt: no reset that is accepted, no foreign call but one that is refused
 pub record FairReal (w : World) (c : RealCall) : Type 0 where
   pub own-given : entersIn (placeOf w (asCall c)) c ≡ placeOf w (asCall c)
   pub typed : TypedCall (asCall c)
@@ -217,7 +217,7 @@ AnswersAgree n w (c ∷ cs) =
 -- a run of the machine with the same calls and answers, and after it the same records, tables and bytes
 pub record IsRun (r : RealRun) : Type 0 where
   pub run : Run packed
-  pub geometry : run .opening .geometry ≡ producerGeometry (r .opening .producerNew)
+  pub opened : openedWorld packed (run .opening) ≡ realOpened (r .opening)
   pub calls : callsIn (run .calls) ≡ asCalls (r .calls)
   pub answers : AnswersAgree (openedSize (r .opening)) (realOpened (r .opening)) (r .calls)
   pub history : historyIn packed run ≡ historyOf (realMachine (openedSize (r .opening))) (realOpened (r .opening)) (r .calls)

@@ -10,7 +10,8 @@ use lib.Dec.{T}
 use Rattle.base.proofs.Tests.{split}
 use Rattle.queue.specs.History.{Item, Event, History, items, butLast, pubs, polls, standing}
 use Rattle.queue.specs.History.{submit, reclaim, nextId, poll, complete, peek, checkpoint, rollback, other, foreign}
-use Rattle.queue.specs.History.{nexted, peeked, quiet, refused, foreignAnswered, submitted, polled, completed, reclaimed, marked, rolled, unchanged}
+use Rattle.queue.specs.History.{nexted, peeked, quiet, refused, foreignAnswered, submitted, polled, completed, reclaimed, marked, rolled}
+use Rattle.queue.specs.History.{unchanged}
 use Rattle.queue.specs.Promise.{Rules, forHanded, Each, RightRefusal, Right}
 use Rattle.queue.specs.Sentences.{All, counted, isPoll, UndoesNothing}
 use Rattle.queue.proofs.Listing.{items-append, but-last-none}
@@ -74,7 +75,7 @@ module _ {C : Type 0} (rules : Rules C) where
   still (rolled c js) t = absurd t
   still (unchanged u) t = tt
 
-  -- "With k ahead it arrives at poll k+1 if nothing is rolled back meanwhile": x waits after h behind the chains `front`; g follows, in
+  -- "With k ahead it arrives at poll k+1 if nothing is rolled back meanwhile": x waits after h after the chains `front`; g follows, in
   -- which no poll is rolled back and as many polls are made as `front` has chains; then the next poll gives x
   pub ahead :
       (h : History C) (front later : List Item) (x : Item) → pubs h ≡ items (standing h) ++ (front ++ (x ∷ later))

@@ -12,7 +12,7 @@ use Rattle.queue.specs.History.{poll, reclaim, rollback, nexted, refused
 use Rattle.queue.specs.Promise.{Undoes, UndoesIntact, plain, Each, MayFollow, Right}
 use Rattle.queue.specs.Sentences.{All, isPoll, UndoesNothing, isReclaim, ItsOwn, sources, Oldest}
 use Rattle.queue.proofs.Model.{Mark, next, model, Undo, UndoIntact, AllOk}
-use Rattle.queue.proofs.Trace.{rightly, undo-all-of}
+use Rattle.queue.proofs.Trace.{rightly, undo-intact-of}
 use Rattle.queue.proofs.Ahead.{ahead}
 use Rattle.queue.proofs.Returned.{returned}
 use Rattle.queue.proofs.Literal.{oldest-at}
@@ -94,7 +94,7 @@ ok-completed = ((ok-polled, inr (inl refl)), inl refl)
 
 -- a rollback after a completion need not be accepted
 not-due : UndoesIntact completedBoth 7 (2 ∷ 3 ∷ []) → ⊥
-not-due u = no-undo (undo-all-of (plain 4) completedBoth ok-completed 7 (2 ∷ 3 ∷ []) u)
+not-due u = no-undo (undo-intact-of (plain 4) completedBoth ok-completed 7 (2 ∷ 3 ∷ []) u)
 
 ok-run : AllOk (plain 4) run
 unfolding model next
@@ -131,7 +131,7 @@ meets = (((((((((((((((((tt, tt), tt), tt), tt), tt), undoes-first .undoes), tt)
 answered-run : Each (Right (plain 4)) run
 answered-run = rightly (plain 4) run ok-run
 
--- ---- `ahead`: b waits behind a; a poll that is not counted, a rollback of nothing and one poll later, the next poll gives b
+-- ---- `ahead`: b waits after a; a poll that is not counted, a rollback of nothing and one poll later, the next poll gives b
 
 behind : pubs rolledBack ≡ items (standing rolledBack) ++ ((a ∷ []) ++ (b ∷ []))
 unfolding pubs standing
@@ -146,7 +146,7 @@ arrives e f t = ahead (plain 4) rolledBack (a ∷ []) [] b behind pollings e f n
 arrived : Each (Right (plain 4)) (polled b ∷ (pollings ++ rolledBack))
 arrived = answered-run .0 .0 .0 .0 .0 .0 .0
 
--- ---- `returned`: the completion of a is behind that of b
+-- ---- `returned`: the completion of a is after that of b
 
 behind-done : comps completedBoth ≡ reclaims completedBoth ++ ((db ∷ []) ++ (da ∷ []))
 unfolding comps reclaims

@@ -9,12 +9,14 @@ use native.Mathlib.Decide.{ℕ-discrete}
 use mathlib.Core.List.{List, [], _∷_, _++_, append-assoc, append-nil}
 use lib.ListN.{length, drop}
 use lib.Dec.{T, eqb, eqb→eq, eqb-refl, T-not}
-use Rattle.queue.specs.History.{Item, Done, Event, History, Poll, slotsOf, slotsIn, items, ids, butLast, without, withoutItem, ofId, times, reclaims, standing, held, out, finished}
+use Rattle.queue.specs.History.{Item, Done, Event, History, Poll, slotsOf, slotsIn, items, ids, butLast, without, withoutItem, ofId, times}
+use Rattle.queue.specs.History.{reclaims, standing, held, out, finished}
 use Rattle.queue.specs.History.{submitted, polled, completed, reclaimed, marked, rolled, unchanged}
 use Rattle.queue.specs.Promise.{Has, Unlike, Rules}
 use Rattle.queue.specs.Sentences.{All}
 use Rattle.queue.proofs.Model.{Queue, tail, Member, next, model, Ok, AllOk}
-use Rattle.queue.proofs.Listing.{on-test, all-append, all-left, all-right, all-map, items-append, ids-append, but-last-rest, one, one-same, one-other, times-cons, member-left, member-last}
+use Rattle.queue.proofs.Listing.{on-test, all-append, all-left, all-right, all-map, items-append, ids-append, but-last-rest, one, one-same}
+use Rattle.queue.proofs.Listing.{one-other, times-cons, member-left, member-last}
 use Rattle.queue.proofs.Trace.{settled, Link, link}
 
 -- ---- lists of items, polls and completions

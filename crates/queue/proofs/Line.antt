@@ -43,7 +43,7 @@ module _ {A E : Type 0} (counts : E → Bool) (gives : A → E) (put came : List
   AllMove h [] = Unit
   AllMove h (e ∷ g) = AllMove h g × Moves (g ++ h) e
 
-  -- x waits after h, behind those in front
+  -- x waits after h, after those in front
   module _ (h : List E) (front later : List A) (x : A) (waits : put h ≡ came h ++ (front ++ (x ∷ later))) where
     -- after g, when the first j of those in front have come out
     abbrev Left : List E → ℕ → Type 0

@@ -7,10 +7,9 @@ use mathlib.Core.Bool.{Bool, true, false, not}
 use mathlib.Core.List.{List, [], _∷_, _++_}
 use lib.Dec.{T}
 use lib.ListN.{drop}
-use Rattle.queue.specs.History.{Kind, Event, History, pubs}
+use Rattle.queue.specs.History.{Kind, Event, History}
 use Rattle.queue.specs.History.{submit, reclaim, nextId, poll, complete, peek, checkpoint, rollback, other, foreign, refused, unchanged}
-use Rattle.queue.specs.Promise.{Undoes, Rules, forHanded, Each, MayFollow, Refusal, Right}
-use Rattle.queue.specs.Sentences.{latest}
+use Rattle.queue.specs.Promise.{Rules, forHanded, Each, MayFollow, Refusal, Right}
 use Rattle.queue.specs.Machine.{Machine, worldOf, historyOf, FairCalls, numberOf, OfKind}
 use Rattle.queue.specs.Demand.{Premise, Demand3}
 use Rattle.queue.proofs.Model.{Queue, start, next, model, Ok, AllOk}
@@ -123,7 +122,7 @@ module _ {C : Type 0} (M : Machine C) (rules : Rules C) (w : M .World) where
           record {
             oldest = λ x later before s.
                 let o = ok-to later before _ s in
-                (latest (x .id) (pubs before), oldest-at rules before (o .0) x (o .1));
+                oldest-at rules before (o .0) x (o .1);
             blocks = λ v n later before s t.
                 ⊎-elim (λ z. absurd (never-both (forHanded n) (z .0) t))
                 (λ z. (z .1 .0, none-waits rules before (ok-to later before _ s .0) (z .1 .1))) (right-at later before _ s .1);
@@ -144,14 +143,14 @@ module _ {C : Type 0} (M : Machine C) (rules : Rules C) (w : M .World) where
             kinds = λ later before c s.
                 m .kind (worldOf M w before) (model (historyOf M w before)) c (like-at later before c s) (premise-to later before c s .fair .1);
             rollbacks = λ c js later before s.
-                let o = ok-to later before _ s in
-                let u : Undoes before c js = undoes-of rules before (o .0) c js (o .1) in (
-                  u,
-                  record {
-                    stand = undone before c js u;
-                    still-held = undone-held before c js u rules (o .0);
-                    wait-again = wait-again before c js u rules (o .0);
-                  },
+                let o = ok-to later before _ s in (
+                  undoes-of rules before (o .0) c js (o .1),
+                  λ u.
+                      record {
+                        stand = undone before c js u;
+                        still-held = undone-held before c js u rules (o .0);
+                        wait-again = wait-again before c js u rules (o .0);
+                      },
                 );
             answers = right;
           }

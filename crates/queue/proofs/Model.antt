@@ -6,9 +6,11 @@ use mathlib.Core.Logic.{_⊎_}
 use mathlib.Core.List.{List, [], _∷_, _++_}
 use mathlib.Core.Bool.{true, false}
 use lib.ListN.{length, drop}
-use Rattle.queue.specs.History.{Item, Done, Kind, Unchanged, Event, History, Poll, slotsOf, slotsIn, items, ids, upto, after, butLast, without, withoutItem, times}
+use Rattle.queue.specs.History.{Item, Done, Kind, Unchanged, Event, History, Poll, slotsOf, slotsIn, items, ids, upto, after, butLast, without}
+use Rattle.queue.specs.History.{withoutItem, times}
 use Rattle.queue.specs.History.{submit, reclaim, nextId, poll, complete, peek, checkpoint, rollback, other, foreign}
-use Rattle.queue.specs.History.{nexted, peeked, quiet, refused, foreignAnswered, submitted, polled, completed, reclaimed, marked, rolled, unchanged}
+use Rattle.queue.specs.History.{nexted, peeked, quiet, refused, foreignAnswered, submitted, polled, completed, reclaimed, marked, rolled}
+use Rattle.queue.specs.History.{unchanged}
 use lib.Dec.{T}
 use Rattle.queue.specs.Promise.{Has, Unlike, Fine, forHanded, Rules, Due}
 
@@ -53,12 +55,12 @@ module _ {C : Type 0} where
   abbrev pub markOf : Queue C → C → Mark C
   markOf q c = record { value = c; polls = q .polls; comps = q .comps; stood = q .fresh }
 
-  abbrev pub looking : Queue C → Unchanged C → List ℕ
-  looking q (nexted i) = i ∷ []
-  looking q (peeked b) = q .promised
-  looking q quiet = q .promised
-  looking q (refused k v n) = q .promised
-  looking q (foreignAnswered n) = q .promised
+  abbrev pub promisedBy : Queue C → Unchanged C → List ℕ
+  promisedBy q (nexted i) = i ∷ []
+  promisedBy q (peeked b) = q .promised
+  promisedBy q quiet = q .promised
+  promisedBy q (refused k v n) = q .promised
+  promisedBy q (foreignAnswered n) = q .promised
 
   unfoldable pub next : Queue C → Event C → Queue C
   next q (submitted x) =
@@ -74,7 +76,7 @@ module _ {C : Type 0} where
   next q (rolled c js) =
       record { waiting = items (drop (length (q .fresh) - length js) (q .fresh)) ++ q .waiting; old = q .old; fresh = butLast (length js) (q .fresh); done = q .done; out = q .out; promised = q .promised; polls = q .polls; comps = q .comps; since = q .since; marks = q .marks }
   next q (unchanged l) =
-      record { waiting = q .waiting; old = q .old; fresh = q .fresh; done = q .done; out = q .out; promised = looking q l; polls = q .polls; comps = q .comps; since = q .since; marks = q .marks }
+      record { waiting = q .waiting; old = q .old; fresh = q .fresh; done = q .done; out = q .out; promised = promisedBy q l; polls = q .polls; comps = q .comps; since = q .since; marks = q .marks }
 
   unfoldable pub model : History C → Queue C
   model [] = start

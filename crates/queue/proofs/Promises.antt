@@ -8,7 +8,8 @@ use mathlib.Core.Bool.{Bool, true, false, false≢true}
 use mathlib.Core.List.{List, [], _∷_, _++_}
 use lib.Dec.{T}
 use lib.ListN.{length, drop}
-use Rattle.queue.specs.History.{Chain, Item, Done, Kind, Event, History, slotsOf, slotsIn, items, pubs, comps, reclaims, standing, held, out, finished, promised, waiting}
+use Rattle.queue.specs.History.{Chain, Item, Done, Kind, Event, History, slotsOf, slotsIn, items, pubs, comps, reclaims, standing, held, out}
+use Rattle.queue.specs.History.{finished, promised, waiting}
 use Rattle.queue.specs.History.{submit, reclaim, nextId, poll, complete, peek, checkpoint, rollback, other, foreign}
 use Rattle.queue.specs.History.{nexted, peeked, refused, submitted, polled, completed, reclaimed, unchanged}
 use Rattle.queue.specs.Promise.{Has, Unlike, Fine, HandedInvalid, Rules, plain, forHanded, Each, Refusal, Right}
@@ -51,7 +52,7 @@ module _ {C : Type 0} (M : Machine C) (rules : Rules C) (w : M .World) (cs : Lis
       → Unlike (x .id) (items (drop (length (reclaims before)) (finished before))) × Unlike (x .id) (items (held before)) × Unlike (x .id) (waiting before)
   new-id x later before s = fresh-id rules before x (ok-to later (submitted x ∷ before) s)
 
-  -- never more slots are out than the ring has, nor more chains than slots: a submission that finds slots finds an ID
+  -- never more slots are out than the ring has, nor more chains than slots (so with an ID for each chain a submission that finds slots finds an ID)
   pub never-over :
       (later before : History C) → h ≡ later ++ before → (slotsIn (out before) ≤ rules .size) × (length (out before) ≤ slotsIn (out before))
   never-over later before s = (slots-fit rules before (ok-to later before s), chains-fit rules before (ok-to later before s))
@@ -103,6 +104,12 @@ module _ {C : Type 0} (M : Machine C) (rules : Rules C) (w : M .World) (cs : Lis
       (c : C) (js : List ℕ) (v : Bool) (n : ℕ) (later before : History C) → h ≡ later ++ (unchanged (refused (rollback c js) v n) ∷ before)
       → rules .MustUndo before c js → ⊥
   rollback-accepted c js v n later before s = right-at later before _ s .0
+
+  -- an invalid call is refused, if at all, for what it was handed, and where the rules allow it
+  pub invalid-handed :
+      (k : Kind C) (n : ℕ) (later before : History C) → h ≡ later ++ (unchanged (refused k false n) ∷ before)
+      → T (forHanded n) × rules .MayRefuse before k false n
+  invalid-handed k n later before s = ⊎-elim (λ z. z) (λ z. absurd (false≢true (z .0))) (right-at later before _ s .1)
 
 -- ---- where the rules are plain: a valid call by an end given its own is never refused for what it was handed, and so always counts
 

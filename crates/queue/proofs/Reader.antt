@@ -11,7 +11,8 @@ use native.Mathlib.Decide.{ℕ-discrete}
 use mathlib.Core.List.{List, [], _∷_, _++_}
 use lib.ListN.{length, drop, length-append}
 use lib.Seq.{drop-at}
-use Rattle.queue.specs.History.{Item, Done, History, Poll, slotsOf, slotsIn, items, ids, withoutItem, times, pubs, comps, reclaims, standing, held, out, finished, waiting}
+use Rattle.queue.specs.History.{Item, Done, History, Poll, slotsOf, slotsIn, items, ids, withoutItem, times, pubs, comps, reclaims, standing}
+use Rattle.queue.specs.History.{held, out, finished, waiting}
 use Rattle.queue.specs.History.{submitted, polled, completed, reclaimed, marked, rolled, unchanged}
 use Rattle.queue.specs.Promise.{Unlike, Rules}
 use Rattle.queue.specs.Sentences.{All, At, ItsOwn, ItsOwnBefore}

@@ -10,7 +10,8 @@ use lib.Dec.{T}
 use Rattle.base.proofs.Tests.{split}
 use Rattle.queue.specs.History.{Done, Event, History, comps, reclaims}
 use Rattle.queue.specs.History.{submit, reclaim, nextId, poll, complete, peek, checkpoint, rollback, other, foreign}
-use Rattle.queue.specs.History.{nexted, peeked, quiet, refused, foreignAnswered, submitted, polled, completed, reclaimed, marked, rolled, unchanged}
+use Rattle.queue.specs.History.{nexted, peeked, quiet, refused, foreignAnswered, submitted, polled, completed, reclaimed, marked, rolled}
+use Rattle.queue.specs.History.{unchanged}
 use Rattle.queue.specs.Promise.{Rules, forHanded, Each, RightRefusal, Right}
 use Rattle.queue.specs.Sentences.{counted, isReclaim}
 use Rattle.queue.proofs.Line.{Moves, AllMove, in-line}
@@ -61,7 +62,7 @@ module _ {C : Type 0} (rules : Rules C) where
   steps h (e ∷ g) f = (steps h g (f .0), step (g ++ h) e (f .1))
 
   -- "Completions reach the producer the same way: in order, once each, with their own ID and length": the completion x was made and not
-  -- yet returned after h, behind the completions `front`; g follows, with as many producer's polls as `front` has completions; then
+  -- yet returned after h, after the completions `front`; g follows, with as many producer's polls as `front` has completions; then
   -- the next one returns x. Rollbacks may stand in g.
   pub returned :
       (h : History C) (front later : List Done) (x : Done) → comps h ≡ reclaims h ++ (front ++ (x ∷ later))

@@ -9,13 +9,18 @@ use native.Mathlib.Omega.{arith}
 use mathlib.Core.List.{List, [], _∷_, _++_, append-assoc, append-nil, append-cancel-left}
 use lib.ListN.{length, drop, length-append}
 use lib.Seq.{drop-at}
-use Rattle.queue.specs.History.{Item, Done, Kind, Unchanged, Event, History, Poll, items, ids, upto, after, butLast, without, times, pubs, polls, comps, reclaims, standing, held, out, promised, waiting}
+use Rattle.queue.specs.History.{Item, Done, Kind, Unchanged, Event, History, Poll, items, ids, upto, after, butLast, without, times, pubs}
+use Rattle.queue.specs.History.{polls, comps, reclaims, standing, held, out, promised, waiting}
 use Rattle.queue.specs.History.{submit, reclaim, nextId, poll, complete, peek, checkpoint, rollback, other, foreign}
-use Rattle.queue.specs.History.{nexted, peeked, quiet, refused, foreignAnswered, submitted, polled, completed, reclaimed, marked, rolled, unchanged}
+use Rattle.queue.specs.History.{nexted, peeked, quiet, refused, foreignAnswered, submitted, polled, completed, reclaimed, marked, rolled}
+use Rattle.queue.specs.History.{unchanged}
 use Rattle.queue.specs.Promise.{Undoes, UndoesIntact, Rules, Each, Refusal, RightUnchanged, Right}
 use Rattle.queue.specs.Sentences.{All}
-use Rattle.queue.proofs.Model.{Mark, Queue, start, tail, Member, markOf, looking, next, model, Undo, UndoIntact, OkRefusal, OkUnchanged, Ok, AllOk}
-use Rattle.queue.proofs.Listing.{all-append, all-map, all-of, Under, Rising, under-mono, rising-snoc, rising-take, items-append, length-items, upto-under, after-under, but-last-rest, but-last-append, all-but-last, named-fit, member-left, member-last, member-snoc, nil-of}
+use Rattle.queue.proofs.Model.{Mark, Queue, start, tail, Member, markOf, promisedBy, next, model, Undo, UndoIntact, OkRefusal, OkUnchanged, Ok}
+use Rattle.queue.proofs.Model.{AllOk}
+use Rattle.queue.proofs.Listing.{all-append, all-map, all-of, Under, Rising, under-mono, rising-snoc, rising-take, items-append, length-items}
+use Rattle.queue.proofs.Listing.{upto-under, after-under, but-last-rest, but-last-append, all-but-last, named-fit, member-left, member-last}
+use Rattle.queue.proofs.Listing.{member-snoc, nil-of}
 
 -- of a mark with as many completions as now, no poll before the last completion came after it
 abbrev pub MarkOk : {C : Type 0} → ℕ → ℕ → Mark C → Type 0
@@ -87,13 +92,13 @@ snoc-is : (L s f : List Poll) (n m : ℕ) (x : Item) → n ≡ m → L ≡ s ++ 
 snoc-is L s f n m x e o = rw (o, e, append-assoc)
 
 module _ {C : Type 0} where
-  promised-look : (h : History C) (q : Queue C) (l : Unchanged C) → promised h ≡ q .promised → promised (unchanged l ∷ h) ≡ looking q l
+  promised-unchanged : (h : History C) (q : Queue C) (l : Unchanged C) → promised h ≡ q .promised → promised (unchanged l ∷ h) ≡ promisedBy q l
   unfolding promised
-  promised-look h q (nexted i) e = refl
-  promised-look h q (peeked b) e = e
-  promised-look h q quiet e = e
-  promised-look h q (refused k v n) e = e
-  promised-look h q (foreignAnswered n) e = e
+  promised-unchanged h q (nexted i) e = refl
+  promised-unchanged h q (peeked b) e = e
+  promised-unchanged h q quiet e = e
+  promised-unchanged h q (refused k v n) e = e
+  promised-unchanged h q (foreignAnswered n) e = e
 
   link-step : (rules : Rules C) (h : History C) (q : Queue C) (e : Event C) → Link h q → Ok rules h q e → Link (e ∷ h) (next q e)
   unfolding pubs polls comps reclaims standing held out promised settled next
@@ -211,7 +216,7 @@ module _ {C : Type 0} where
         rising = l .rising;
         held-is = l .held-is;
         out-is = l .out-is;
-        promised-is = promised-look h q k (l .promised-is);
+        promised-is = promised-unchanged h q k (l .promised-is);
         polls-is = l .polls-is;
         comps-is = l .comps-is;
         since-le = l .since-le;
@@ -370,9 +375,9 @@ module _ {C : Type 0} where
           names = λ y. u .names y ∙ ap (λ (l : List Poll). times y (ids l)) (same-after rules h ok c (u .since) (u .before) (u .took) same);
         }
 
-    pub undo-all-of : UndoesIntact h c js → UndoIntact (model h) c js
+    pub undo-intact-of : UndoesIntact h c js → UndoIntact (model h) c js
     unfolding undo-of
-    undo-all-of a =
+    undo-intact-of a =
         let u : Undoes h c js = a .undoes in
         let same : model (u .before) .comps ≡ model h .comps = comps-now rules h ok c (u .since) (u .before) (u .took) (u .none-completed) in
         record {
@@ -413,19 +418,6 @@ module _ {C : Type 0} where
           names = λ y.
               u .names y ∙ ap (λ (m : Mark C). times y (ids (after (m .polls) (model h .fresh)))) (b .is)
               ∙ ap (λ (l : List Poll). times y (ids l)) (sym (same-after rules h ok c (b .since) (b .before) (b .took) (back-same u)));
-        }
-
-    pub undoes-all-of : UndoIntact (model h) c js → UndoesIntact h c js
-    unfolding undoes-of
-    undoes-all-of a =
-        let u : Undo (model h) c js = a .undo in
-        let b : Back u = back u in
-        record {
-          undoes = undoes-of u;
-          stand =
-              same-upto rules h ok c (b .since) (b .before) (b .took) (back-same u)
-              ∙ ap (λ (m : Mark C). settled h ++ upto (m .polls) (model h .fresh)) (sym (b .is)) ∙ ap (λ (l : List Poll). settled h ++ l) (a .stand)
-              ∙ ap (λ (m : Mark C). settled h ++ m .stood) (b .is) ∙ sym (standing-before rules h ok c (b .since) (b .before) (b .took) (back-same u));
         }
 
   -- ---- the promise

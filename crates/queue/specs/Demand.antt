@@ -13,7 +13,7 @@ use lib.ListN.{length}
 use Rattle.queue.specs.History.{Item, Done, Kind, Event, History, items, pubs, comps, reclaims, standing}
 use Rattle.queue.specs.History.{poll, reclaim, foreign, refused, polled, reclaimed, rolled, unchanged}
 use Rattle.queue.specs.Promise.{Undoes, Rules, forHanded, Each, MayFollow, Right}
-use Rattle.queue.specs.Sentences.{All, counted, isPoll, isReclaim, UndoesNothing, Oldest, NoneWaits, ItsOwn, ItsOwnBefore, RolledBack}
+use Rattle.queue.specs.Sentences.{All, counted, latest, isPoll, isReclaim, UndoesNothing, Oldest, NoneWaits, ItsOwn, ItsOwnBefore, RolledBack}
 use Rattle.queue.specs.Machine.{Machine, worldOf, historyOf, FairCalls, numberOf, OfKind}
 
 module _ {C : Type 0} (M : Machine C) (rules : Rules C) (w : M .World) (calls : List (M .Call)) where
@@ -29,7 +29,9 @@ module _ {C : Type 0} (M : Machine C) (rules : Rules C) (w : M .World) (calls : 
   -- What is promised, of every call: `later ++ (e ∷ before)` is the whole history, THE LATEST FIRST, and so e any event of it
   pub record Demand3 : Type 0 where
     -- "a poll returns the oldest published chain whose polls, if any, were all rolled back, element for element"
-    pub oldest : (x : Item) (later before : History C) → h ≡ later ++ (polled x ∷ before) → (j : ℕ) × Oldest before x j
+    pub oldest :
+        (x : Item) (later before : History C) → h ≡ later ++ (polled x ∷ before)
+        → Oldest before x (latest (x .id) (pubs before))
     -- "and blocks only when none waits": a poll that counts and gives no chain is refused with 3, and none waits
     pub blocks :
         (v : Bool) (n : ℕ) (later before : History C) → h ≡ later ++ (unchanged (refused poll v n) ∷ before)
@@ -53,12 +55,12 @@ module _ {C : Type 0} (M : Machine C) (rules : Rules C) (w : M .World) (calls : 
         (front rest : List Done) (d : Done) (later between before : History C) (e : Event C) → h ≡ later ++ (e ∷ (between ++ before))
         → comps before ≡ reclaims before ++ (front ++ (d ∷ rest))
         → counted isReclaim between ≡ length front → T (isReclaim e) → e ≡ reclaimed d
-    -- "with their own ID and length": as a completion is returned (`own-before`), and of all that were returned (`own`), it is of a submission p, which was published, polled and completed before, under
-    -- the ID that it got; and it is what the consumer completed it with
-    pub own-before : (d : Done) (later before : History C) → h ≡ later ++ (reclaimed d ∷ before) → (p : ℕ) × ItsOwnBefore before d p
-    pub own : (j : ℕ) → j < length (reclaims h) → (p : ℕ) × (p < length (pubs h)) × ItsOwn h j p
     -- "once each": no two completions that were returned are of one submission
     pub once : (i j p : ℕ) → ItsOwn h i p → ItsOwn h j p → i ≡ j
+    -- "with their own ID and length": as a completion is returned (`own-before`), and of all that were returned (`own`), it is of a submission p,
+    -- which was published, polled and completed before, under the ID that it got; and it is what the consumer completed it with
+    pub own-before : (d : Done) (later before : History C) → h ≡ later ++ (reclaimed d ∷ before) → (p : ℕ) × ItsOwnBefore before d p
+    pub own : (j : ℕ) → j < length (reclaims h) → (p : ℕ) × (p < length (pubs h)) × ItsOwn h j p
     -- "Calls refused for bad records or buffers aren't counted" (`isPoll` and `isReclaim` do not count them): a call by an end given its own is so
     -- refused only for what that call was handed
     pub refusals :
@@ -78,7 +80,7 @@ module _ {C : Type 0} (M : Machine C) (rules : Rules C) (w : M .World) (calls : 
     -- what an accepted rollback does to the lists that this statement is made of: so they are what their names say
     pub rollbacks :
         (c : C) (js : List ℕ) (later before : History C) → h ≡ later ++ (rolled c js ∷ before)
-        → (u : Undoes before c js) × RolledBack before c js u
+        → Undoes before c js × ((u : Undoes before c js) → RolledBack before c js u)
     -- and every answer of every call: which submissions, completions and rollbacks are accepted, which IDs are given, what next_id and
     -- peek_available say
     pub answers : Each (Right rules) h

@@ -14,7 +14,8 @@ use Rattle.base.proofs.Words.{Bytes, word-below}
 use Rattle.event.specs.declared.EventSuppression.{EventSuppression}
 use Rattle.event.specs.Event.{ENABLE, DISABLE, DESC, event, offOf, wrapOf, flagsOf, setFlags, setDescEvent, encodeOf, decodeOf}
 use Rattle.event.proofs.Trips.{Ranged, decode-encode, encode-decode}
-use Rattle.virtio.specs.Packed.{littleEndian, image, pvirtq-event-suppress, EventRanged, RING-EVENT-FLAGS-ENABLE, RING-EVENT-FLAGS-DISABLE, RING-EVENT-FLAGS-DESC}
+use Rattle.virtio.specs.Packed.{littleEndian, image, pvirtq-event-suppress, EventRanged, RING-EVENT-FLAGS-ENABLE, RING-EVENT-FLAGS-DISABLE}
+use Rattle.virtio.specs.Packed.{RING-EVENT-FLAGS-DESC}
 use Rattle.virtio.proofs.Bytes.{bytes-document}
 
 -- the fourteen reserved bits

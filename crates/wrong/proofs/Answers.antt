@@ -21,7 +21,8 @@ use Rattle.packed.specs.Machine.{Ring, ConsumerSide, ConsumerLeaves, packed, ma
 use Rattle.packed.specs.Opening.{Opening, openedWorld, Demand}
 use Rattle.history.proofs.Ends.{zeros, two-accepted, over-zeros, nothing-asked, takes, item, done, checkpoint, polls-for}
 use Rattle.wrong.proofs.Changed.{isPoll, isPeek, isRollback, onlyTaken, consumerBy, withConsumer}
-use Rattle.wrong.proofs.Calls.{a, b, both, submit-a, submit-b, submit-both, poll, complete-1, reclaim, peek, computing, ordinary-fair, Broken, broken}
+use Rattle.wrong.proofs.Calls.{a, b, both, submit-a, submit-b, submit-both, poll, complete-1, reclaim, peek, computing, ordinary-fair, Broken}
+use Rattle.wrong.proofs.Calls.{broken}
 
 -- ---- THE WRONG RING: peek_available always says no
 

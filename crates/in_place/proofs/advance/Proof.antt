@@ -16,8 +16,10 @@ use prog.Wp.{Heap, Calls, Loops, WpFn}
 use ghost.Atoms.{Atoms}
 use contract.Monad.{Fun}
 use contract.Running.{givenOf, tables}
-use types.Kit.{Given, ‵, raw, some, later, given, _⊛_, _$_, _∵_, !, qed, by, move, keep, use1, use2, split, join, pick, learn, fsplit, fjoin, suffices, frame, await, done}
-use types.Run.{look, init, forget, stop, hop, from, load, addr, lit, and-then, no-more, assigns, land, returns, enter, alloc1, alloc0, params1, pass1, pass0, free1, free0}
+use types.Kit.{Given, ‵, raw, some, later, given, _⊛_, _$_, _∵_, !, qed, by, move, keep, use1, use2, split, join, pick, learn, fsplit, fjoin}
+use types.Kit.{suffices, frame, await, done}
+use types.Run.{look, init, forget, stop, hop, from, load, addr, lit, and-then, no-more, assigns, land, returns, enter, alloc1, alloc0, params1, pass1}
+use types.Run.{pass0, free1, free0}
 use sound.WpLaws.{FmC}
 use denote.RattleType.{owns}
 use denote.Laws.{Is}

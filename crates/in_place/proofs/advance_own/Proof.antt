@@ -16,8 +16,10 @@ use prog.Wp.{Heap, Calls, Loops, WpFn}
 use ghost.Atoms.{Atoms, sem}
 use contract.Monad.{Fun}
 use contract.Running.{givenOf, tables}
-use types.Kit.{Given, ‵, raw, some, later, given, _⊛_, _$_, _∵_, !, qed, by, move, keep, drop, use1, use2, use3, split, pick, learn, check, rewrite, fsplit, fjoin, fpick, fpack, suffices, await, done}
-use types.Run.{look, init, forget, stop, from, load, addr, of-opd, and-then, no-more, assigns, land, returns, enter, alloc1, alloc0, params1, pass1, pass0, free1, free0}
+use types.Kit.{Given, ‵, raw, some, later, given, _⊛_, _$_, _∵_, !, qed, by, move, keep, drop, use1, use2, use3, split, pick, learn, check, rewrite}
+use types.Kit.{fsplit, fjoin, fpick, fpack, suffices, await, done}
+use types.Run.{look, init, forget, stop, from, load, addr, of-opd, and-then, no-more, assigns, land, returns, enter, alloc1, alloc0, params1, pass1}
+use types.Run.{pass0, free1, free0}
 use types.Part.{agg}
 use types.SemTy.{Body}
 use types.Tokens.{lft-new, lft-end}
