@@ -1,1 +1,3 @@
 // Theorems alone: what a producer wrote is what a consumer reads.
+
+#![tactic(auto)]

@@ -2,6 +2,8 @@
 // SPDX-License-Identifier: Apache-2.0
 // Copyright 2026 The Hyperlight Authors.
 // Translated from src/virtq/ring.rs of hyperlight-common 0.18.0 (RingError) and changed.
+#![tactic(auto)]
+
 pub mod bytes;
 pub mod pick;
 

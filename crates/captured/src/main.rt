@@ -1,6 +1,8 @@
 // What Linux's driver and QEMU's device put into memory (see oracle/captured), decoded by the ring's own leaves.
 // Standard input: 1 to 240 records of seventeen bytes, 'S' and a slot's sixteen, or 'E', an event area's four and twelve more.
 // What is none is answered with the line `bad`.
+#![tactic(auto)]
+
 use desc::Descriptor;
 use event::EventSuppression;
 use say::{either, number, words};

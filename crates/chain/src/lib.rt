@@ -1,5 +1,7 @@
 // A chain of buffers: lent addresses, lent lengths, and how many of its elements the device reads. Readables come
 // first by form. It stands for the BufferChain of src/virtq/ring.rs of hyperlight-common 0.18.0.
+#![tactic(auto)]
+
 pub mod addrs;
 pub mod lens;
 

@@ -3,6 +3,8 @@
 // Copyright 2026 The Hyperlight Authors.
 // Translated from src/virtq/ring.rs of hyperlight-common 0.18.0 (RingConsumer) and changed: by value, over one lent byte slice
 // and a lent table of 16-bit numbers, and every record and slice that is handed in is tested.
+#![tactic(auto)]
+
 mod refuse;
 
 ghost use Rattle.std.specs.Prelude.{◌≡◌, false, [], ◌∷◌, ◌+◌, ◌-◌, ◌≤◌, eqb};

@@ -1,4 +1,6 @@
 // A dump of a ring's region, for people: what its first six bytes say, what a slot's flags mean, and the lines that show it.
+#![tactic(auto)]
+
 mod line;
 
 ghost use Rattle.std.specs.Prelude.{◌≡◌};

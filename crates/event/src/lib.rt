@@ -2,6 +2,8 @@
 // SPDX-License-Identifier: Apache-2.0
 // Copyright 2026 The Hyperlight Authors.
 // Translated from src/virtq/event.rs of hyperlight-common 0.18.0 and changed: by value, over one lent byte slice.
+#![tactic(auto)]
+
 ghost use Rattle.std.specs.Prelude.{◌≡◌};
 ghost use Rattle.base.specs.Answer.{outcome, answer_of};
 ghost use Rattle.base.specs.Bytes.{put_of, get_of};

@@ -9,6 +9,8 @@
 //   U  QEMU pushed the ID and the length, and the slot became the sixteen
 //   Y, N  the same, and QEMU was asked whether it notifies: yes, no
 //   A, O  QEMU turned notifications on, off, and the device's event area became the first four
+#![tactic(auto)]
+
 mod device;
 mod memory;
 mod record;

@@ -1,4 +1,6 @@
 // The trace format as it is read: numbers, the header, the form of a record, what a trace lends and what it forges.
+#![tactic(auto)]
+
 pub mod fill;
 pub mod forge;
 pub mod form;

@@ -3,6 +3,8 @@
 // Copyright 2026 The Hyperlight Authors.
 // Translated from src/virtq/ring.rs of hyperlight-common 0.18.0 (RingCursor's `advance(&mut self)`) and changed: the size
 // handed in, and a bad move refused.
+#![tactic(auto)]
+
 ghost use Rattle.std.specs.Prelude.{◌≡◌};
 ghost use Rattle.cursor.specs.Cursor.{advance_of};
 ghost use Rattle.in_place.specs.InPlace.{outcome_of};

@@ -1,6 +1,8 @@
 // Where a ring's three areas are in the lent bytes.
 // The Rust's Layout (src/virtq/mod.rs of hyperlight-common 0.18.0) is not moved; this one stands in its place, with
 // document 01's tests.
+#![tactic(auto)]
+
 ghost use Rattle.std.specs.Prelude.{◌≡◌};
 ghost use Rattle.layout.specs.Layout.{layout, apart, bad_layout, outside, answer_of, open_of};
 

@@ -1,5 +1,7 @@
 // The leaves on plain numbers: the cases of document 01 that are run, and the edges of every width. Each row has a call's numbers and,
 // last, what it should give: that number is the paper's, worked out by hand, and not taken from a run.
+#![tactic(auto)]
+
 mod areas;
 mod cursors;
 mod marks;

@@ -3,6 +3,8 @@
 // Copyright 2026 The Hyperlight Authors.
 // Translated from src/virtq/ring.rs of hyperlight-common 0.18.0 (should_notify, ring_need_event) and changed: by value, and
 // heads are tested.
+#![tactic(auto)]
+
 ghost use Rattle.std.specs.Prelude.{◌≡◌};
 ghost use Rattle.notify.specs.Notify.{sub16, need_event, awaited, notify_of, answer_of, should_notify_of};
 

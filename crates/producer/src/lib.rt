@@ -3,6 +3,8 @@
 // Copyright 2026 The Hyperlight Authors.
 // Translated from src/virtq/ring.rs of hyperlight-common 0.18.0 (RingProducer) and changed: by value, over one lent byte slice
 // and lent tables of 16-bit numbers, and every record and slice that is handed in is tested.
+#![tactic(auto)]
+
 mod refuse;
 mod write;
 

@@ -1,4 +1,6 @@
 // The consumer's records of a trace: opening, every call of RingConsumer, its record forged, and checkpoint registers.
+#![tactic(auto)]
+
 mod asks;
 mod notes;
 mod notices;

@@ -1,4 +1,6 @@
 // The producer's records of a trace: opening, every call of RingProducer, and its record forged.
+#![tactic(auto)]
+
 mod asks;
 mod chains;
 mod notices;

@@ -1,5 +1,7 @@
 // Runs traces over the port: a header, its records one at a time, the next header. Each step reads one of them,
 // makes the call that it asks for and puts its line into a lent buffer.
+#![tactic(auto)]
+
 mod calls;
 mod hear;
 mod line;

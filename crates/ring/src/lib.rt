@@ -3,6 +3,8 @@
 // Copyright 2026 The Hyperlight Authors.
 // Translated from src/virtq/ring.rs of hyperlight-common 0.18.0 and changed: what RingProducer and RingConsumer both have,
 // said once, over one lent byte slice.
+#![tactic(auto)]
+
 pub mod tables;
 
 ghost use Rattle.std.specs.Prelude.{◌≡◌, cond, ◌+◌, ◌*◌, leb};

@@ -1,4 +1,6 @@
 // What the programs print: words, numbers, and cases with what they should give; and whether what they read is records.
+#![tactic(auto)]
+
 ghost use Rattle.std.specs.Prelude.{◌≡◌, ◌+◌, ◌*◌, ◌%◌, ◌≤◌, if◌then◌else◌};
 
 use libc::STDOUT_FILENO;

@@ -1,5 +1,7 @@
 // A dump of a ring's region, slot by slot, for people. Standard input: the ring's size (16 bits) and where its table begins
 // in the region (32 bits), both little-endian, and then the region's bytes. What each line says is the library's.
+#![tactic(auto)]
+
 use libc::STDOUT_FILENO;
 
 fn main() {

@@ -1,4 +1,6 @@
 // What `worth` prints: a line is a ring's size, the case, and what a call of an end answered.
+#![tactic(auto)]
+
 use base::RingError;
 use consumer::PolledChain;
 use cursor::RingCursor;

@@ -1,4 +1,6 @@
 // Text put into a lent buffer from a place on. Each function answers the next place.
+#![tactic(auto)]
+
 ghost use Rattle.std.specs.Prelude.{◌≡◌};
 ghost use Rattle.text.specs.Text.{number_of, blanks_of, right_of, hex_of, written, put_text, puts};
 

@@ -3,6 +3,8 @@
 // Copyright 2026 The Hyperlight Authors.
 // Translated from src/virtq/ring.rs of hyperlight-common 0.18.0 (RingConsumer's rollback_polls) and changed: over a lent table
 // of 16-bit numbers, and what the Rust asserts of the list in debug builds only is always tested.
+#![tactic(auto)]
+
 ghost use Rattle.std.specs.Prelude.{◌≡◌, ◌-◌, ◌%◌, ◌≤◌, ◌||◌, length, ◌==◌, nat_le, nat_lt, slice_index, slice_set};
 ghost use Rattle.undo.specs.Undo.{outcome, answer_of, sum_of, cleared_of};
 

@@ -3,6 +3,8 @@
 // Copyright 2026 The Hyperlight Authors.
 // Translated from src/virtq/ring.rs of hyperlight-common 0.18.0 (RingConsumer's poll_available) and changed: a walk that
 // only counts, and a copy into lent slices, so that a chain that is refused leaves nothing behind.
+#![tactic(auto)]
+
 ghost use Rattle.std.specs.Prelude.{◌≡◌, map, ◌<◌};
 ghost use Rattle.std.proofs.lemmas.List.Edits.{sets};
 ghost use Rattle.desc.specs.declared.Descriptor.{Descriptor};

@@ -1,5 +1,7 @@
 // A window over the lent table, for reading tools (document 01, "What must change shape"): slot i decoded, or nothing. It
 // writes nothing and takes no part in the ring.
+#![tactic(auto)]
+
 ghost use Rattle.std.specs.Prelude.{◌≡◌, drop};
 ghost use Rattle.window.specs.Window.{window, answer_of, shown_of};
 

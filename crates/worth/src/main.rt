@@ -1,5 +1,7 @@
 // Document 01's "Slots worth checking" that are not marked D, on the real ends. Its stdout was written from the paper's words
 // before the program was; every number behind a colon is a call's answer.
+#![tactic(auto)]
+
 mod chains;
 mod ids;
 mod openings;

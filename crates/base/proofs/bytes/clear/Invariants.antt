@@ -1,0 +1,16 @@
+-- `base::bytes::clear` meets its contract. The loop's invariant: the first k zeros are stored.
+-- Assumes nothing.
+use Prim.Native.Nat.{ℕ, ◌+◌, ◌-◌, ◌≤◌}
+use mathlib.Core.Path.{◌≡◌, refl, sym, ap, ap₂, ◌∙◌}
+use mathlib.Core.List.{List}
+use native.Mathlib.Omega.{arith}
+use lib.ListN.{length, take, set, replicate, length-replicate, get_or-replicate}
+use lib.Seq.{sets, length-sets, take_all}
+use Rattle.base.proofs.Runs.{sets_more}
+use Rattle.base.proofs.bytes.clear.Given as goal
+
+abbrev pub invariant-loop-k : goal.invariant-loop-k
+invariant-loop-k l = (l.k ≤ l.n) × (l.ring ≡ sets l.initial.ring l.at (take l.k (replicate l.n 0)))
+
+abbrev pub decreases-loop-k : goal.decreases-loop-k
+decreases-loop-k l = l.n - l.k

@@ -1,0 +1,21 @@
+-- `base::bytes::put` meets its contract: the test is the definition's, and `copy` says what it wrote.
+-- Assumes nothing.
+use borrow.Author.Rules.{rules}
+use Prim.Native.Nat.{◌+◌, ◌≤◌, ◌<◌}
+use mathlib.Core.Path.{sym, ap, ◌∙◌}
+use mathlib.Core.List.{[]}
+use borrow.Author.Tests.{leb-true, leb-false}
+use lib.ListN.{length}
+use Rattle.base.specs.Answer.{outcome, done}
+use Rattle.base.proofs.Runs.{put_fits, put_short}
+use Rattle.base.proofs.bytes.put.Goals as goal
+
+pub returns-then-ends_by : goal.returns-then-ends_by
+returns-then-ends_by c =
+    let a = c.args in
+    ap (outcome (done [])) c.copy.ensures ∙ sym (put_fits a.ring.now a.at a.b.now ((let fits : let a = c.args in a.at + length a.b.now ≤ length a.ring.now = let a = c.args in leb-true (a.at + length a.b.now) (length a.ring.now) (sym c.ends_by.ensures ∙ c.if-ends_by.true) in fits)))
+
+pub returns : goal.returns
+returns c =
+    let a = c.args in
+    sym (put_short a.ring.now a.at a.b.now ((let short : let a = c.args in length a.ring.now < a.at + length a.b.now = let a = c.args in leb-false (a.at + length a.b.now) (length a.ring.now) (sym c.ends_by.ensures ∙ c.if-ends_by.false) in short)))
