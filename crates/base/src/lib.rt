@@ -12,7 +12,7 @@ ghost use Rattle.base.specs.Refusals.{number_of, listed};
 
 // The Rust's names, without Bookkeeping and MemError (nothing is allocated and no memory call fails), and three of the
 // port's own, for what a caller hands in.
-#[derive(Drop)]
+#[derive(Clone, Copy)]
 pub enum RingError {
     EmptyChain,
     BadChain,
@@ -26,7 +26,7 @@ pub enum RingError {
 }
 
 // What a call answers that has nothing to hand back.
-#[derive(Drop)]
+#[derive(Clone, Copy)]
 pub enum Reply {
     Done,
     Refused(RingError),

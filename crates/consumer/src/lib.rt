@@ -28,7 +28,7 @@ use layout::{LaidOut, Layout};
 use ring::{AskedBool, AskedCount, AskedCursor};
 use undo::Summed;
 
-#[derive(Drop)]
+#[derive(Clone, Copy)]
 pub struct RingConsumer {
     pub layout: Layout,
     // The next slot to look at for a chain, and the next to mark used.
@@ -40,7 +40,7 @@ pub struct RingConsumer {
 }
 
 // What is needed to undo the polls since it was taken. No chain may be completed between.
-#[derive(Drop)]
+#[derive(Clone, Copy)]
 pub struct Checkpoint {
     pub avail: RingCursor,
     pub used: RingCursor,
@@ -48,40 +48,40 @@ pub struct Checkpoint {
 }
 
 // A chain that was polled: its ID, its elements, and how many of them, the first ones, are readable.
-#[derive(Drop)]
+#[derive(Clone, Copy)]
 pub struct PolledChain {
     pub id: u16,
     pub count: u16,
     pub readable: u16,
 }
 
-#[derive(Drop)]
+#[derive(Clone, Copy)]
 pub enum Polled {
     Chain(PolledChain, RingConsumer),
     Refused(RingError, RingConsumer),
 }
 
 // What a call answers that has nothing to hand back but the record.
-#[derive(Drop)]
+#[derive(Clone, Copy)]
 pub enum Answered {
     Done(RingConsumer),
     Refused(RingError, RingConsumer),
 }
 
 // A completion's answer, with whether the driver is to be told.
-#[derive(Drop)]
+#[derive(Clone, Copy)]
 pub enum CompletedTold {
     Notify(bool, RingConsumer),
     Refused(RingError, RingConsumer),
 }
 
-#[derive(Drop)]
+#[derive(Clone, Copy)]
 pub enum Checkpointed {
     At(Checkpoint),
     Refused(RingError),
 }
 
-#[derive(Drop)]
+#[derive(Clone, Copy)]
 pub enum Opened {
     Ring(RingConsumer),
     Refused(RingError),

@@ -9,14 +9,14 @@ ghost use Rattle.cursor.specs.Cursor.{fresh, step, steps, bad_move, outcome, ans
 
 use base::RingError;
 
-#[derive(Drop)]
+#[derive(Clone, Copy)]
 pub struct RingCursor {
     pub head: u16,
     pub wrap: bool,
 }
 
 // What a move answers that is called alone.
-#[derive(Drop)]
+#[derive(Clone, Copy)]
 pub enum Advanced {
     To(RingCursor),
     Refused(RingError, RingCursor),

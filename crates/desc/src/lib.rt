@@ -24,7 +24,7 @@ pub const AVAIL: u16 = 128;
 
 pub const USED: u16 = 32768;
 
-#[derive(Drop)]
+#[derive(Clone, Copy)]
 pub struct Descriptor {
     pub addr: u64,
     pub len: u32,
@@ -207,14 +207,14 @@ pub fn load(ring: &[u8], at: usize) -> [u8; 16]
 }
 
 // A table of `len` slots from `base_addr` of the lent bytes on.
-#[derive(Drop)]
+#[derive(Clone, Copy)]
 pub struct DescTable {
     pub base_addr: usize,
     pub len: usize,
 }
 
 // Where a slot is, if the table has it.
-#[derive(Drop)]
+#[derive(Clone, Copy)]
 pub enum DescAddr {
     At(usize),
     Nowhere,

@@ -15,7 +15,7 @@ use base::bytes;
 pub const MOST: u16 = 2048;
 
 // The ring's size and where its table begins in the bytes behind the header, or what is wrong with them.
-#[derive(Drop)]
+#[derive(Clone, Copy)]
 pub enum Header {
     Ring(u16, u32),
     NoHeader,
@@ -24,7 +24,7 @@ pub enum Header {
 }
 
 // The flags by name, and the bits that have none, in their places.
-#[derive(Drop)]
+#[derive(Clone, Copy)]
 pub struct Names {
     pub next: bool,
     pub write: bool,

@@ -19,7 +19,7 @@ pub const DISABLE: u16 = 1;
 pub const DESC: u16 = 2;
 
 // The two words of the area: offset and wrap, then flags. Of the second, fourteen bits are reserved.
-#[derive(Drop)]
+#[derive(Clone, Copy)]
 pub struct EventSuppression {
     pub off_wrap: u16,
     pub flags: u16,

@@ -2,7 +2,7 @@
 use base::bytes;
 use layout::Layout;
 
-#[derive(Drop)]
+#[derive(Clone, Copy)]
 pub struct Record {
     pub op: u8,
     pub slot: u8,

@@ -12,14 +12,14 @@ pub const LENGTH: usize = 40;
 
 const MAGIC: u32 = 0x31515650;
 
-#[derive(Drop)]
+#[derive(Clone, Copy)]
 pub struct Header {
     pub region: usize,
     pub every: u32,
     pub records: u32,
 }
 
-#[derive(Drop)]
+#[derive(Clone, Copy)]
 pub enum Found {
     Bad,
     Header(Header),

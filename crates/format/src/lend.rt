@@ -4,7 +4,7 @@ ghost use Rattle.format.specs.Lend.{whole_of, lent_of};
 
 use crate::{form, input, part};
 
-#[derive(Drop)]
+#[derive(Clone, Copy)]
 pub struct Lent {
     pub bytes: usize,
     pub ids: usize,

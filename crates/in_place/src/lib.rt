@@ -13,7 +13,7 @@ use cursor::{Advanced, RingCursor};
 
 // The number of a move's answer, and the cursor that it leaves: where the move is refused, the one that came. So whoever
 // stores it back has nothing to decide.
-#[derive(Drop)]
+#[derive(Clone, Copy)]
 pub struct Left {
     pub number: u8,
     pub cursor: RingCursor,

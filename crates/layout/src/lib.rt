@@ -9,7 +9,7 @@ ghost use Rattle.layout.specs.Layout.{layout, apart, bad_layout, outside, answer
 use base::{RingError, pick};
 
 // Offsets of the table of slots and of the two event areas, and the number of slots.
-#[derive(Drop)]
+#[derive(Clone, Copy)]
 pub struct Layout {
     pub table: usize,
     pub driver: usize,
@@ -17,7 +17,7 @@ pub struct Layout {
     pub size: u16,
 }
 
-#[derive(Drop)]
+#[derive(Clone, Copy)]
 pub enum LaidOut {
     At(Layout),
     Refused(RingError),

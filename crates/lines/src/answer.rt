@@ -7,7 +7,7 @@ ghost use Rattle.lines.specs.Line.{line_of, counted_of, four_of};
 use base::RingError;
 
 // Five fields and no array: an answer is held in an enum.
-#[derive(Drop)]
+#[derive(Clone, Copy)]
 pub struct Answer {
     pub a: u64,
     pub b: u64,

@@ -12,7 +12,7 @@ use base::{RingError, pick};
 use cursor::RingCursor;
 use event::EventSuppression;
 
-#[derive(Drop)]
+#[derive(Clone, Copy)]
 pub enum Notified {
     Notify(bool),
     Refused(RingError),

@@ -30,7 +30,7 @@ use layout::{LaidOut, Layout};
 use notify::Notified;
 use ring::{AskedBool, AskedCount, AskedCursor, AskedTable};
 
-#[derive(Drop)]
+#[derive(Clone, Copy)]
 pub struct RingProducer {
     pub layout: Layout,
     // The next slot to make available, and the next to look at for a completion.
@@ -42,52 +42,52 @@ pub struct RingProducer {
     pub shadow: u16,
 }
 
-#[derive(Drop)]
+#[derive(Clone, Copy)]
 pub enum Submitted {
     Id(u16, RingProducer),
     Refused(RingError, RingProducer),
 }
 
 // The ID that a submission got, and whether the device is to be told.
-#[derive(Drop)]
+#[derive(Clone, Copy)]
 pub struct SubmitResult {
     pub id: u16,
     pub notify: bool,
 }
 
-#[derive(Drop)]
+#[derive(Clone, Copy)]
 pub enum SubmittedTold {
     Result(SubmitResult, RingProducer),
     Refused(RingError, RingProducer),
 }
 
 // A completion: the ID of the submission, and the length that the device wrote.
-#[derive(Drop)]
+#[derive(Clone, Copy)]
 pub struct UsedBuffer {
     pub id: u16,
     pub len: u32,
 }
 
-#[derive(Drop)]
+#[derive(Clone, Copy)]
 pub enum PolledUsed {
     Used(UsedBuffer, RingProducer),
     Refused(RingError, RingProducer),
 }
 
-#[derive(Drop)]
+#[derive(Clone, Copy)]
 pub enum NextId {
     Id(u16),
     Refused(RingError),
 }
 
 // What a call answers that has nothing to hand back but the record.
-#[derive(Drop)]
+#[derive(Clone, Copy)]
 pub enum Answered {
     Done(RingProducer),
     Refused(RingError, RingProducer),
 }
 
-#[derive(Drop)]
+#[derive(Clone, Copy)]
 pub enum Opened {
     Ring(RingProducer),
     Refused(RingError),

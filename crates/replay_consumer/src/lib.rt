@@ -14,7 +14,7 @@ use format::{forge, header, input, part};
 use lines::answer::Answer;
 
 // The end behind a record of the trace, and what was answered.
-#[derive(Drop)]
+#[derive(Clone, Copy)]
 pub struct Consumed {
     pub consumer: RingConsumer,
     pub answer: Answer,

@@ -14,7 +14,7 @@ use lines::answer::Answer;
 use producer::RingProducer;
 
 // The end behind a record of the trace, and what was answered.
-#[derive(Drop)]
+#[derive(Clone, Copy)]
 pub struct Produced {
     pub producer: RingProducer,
     pub answer: Answer,

@@ -29,7 +29,7 @@ const END: u8 = 255;
 
 // The place in the input and in the output, the trace, what is lent, the ring's two ends, and the record at hand with
 // its answer.
-#[derive(Drop)]
+#[derive(Clone, Copy)]
 pub struct Run {
     pub at: usize,
     pub out: usize,
@@ -45,7 +45,7 @@ pub struct Run {
     pub is_open: bool,
 }
 
-#[derive(Drop)]
+#[derive(Clone, Copy)]
 pub enum Turn {
     On(Run),
     // The place in the output up to which there is something to write.

@@ -17,25 +17,25 @@ use desc::{DescTable, Descriptor};
 use event::EventSuppression;
 
 // What is asked of a record: a number, a yes or no, a cursor or the table of slots, or the refusal of a bad record.
-#[derive(Drop)]
+#[derive(Clone, Copy)]
 pub enum AskedCount {
     Is(u16),
     Refused(RingError),
 }
 
-#[derive(Drop)]
+#[derive(Clone, Copy)]
 pub enum AskedBool {
     Is(bool),
     Refused(RingError),
 }
 
-#[derive(Drop)]
+#[derive(Clone, Copy)]
 pub enum AskedCursor {
     At(RingCursor),
     Refused(RingError),
 }
 
-#[derive(Drop)]
+#[derive(Clone, Copy)]
 pub enum AskedTable {
     At(DescTable),
     Refused(RingError),

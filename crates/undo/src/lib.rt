@@ -10,7 +10,7 @@ ghost use Rattle.undo.specs.Undo.{outcome, answer_of, sum_of, cleared_of};
 
 use base::{RingError, pick};
 
-#[derive(Drop)]
+#[derive(Clone, Copy)]
 pub enum Summed {
     Slots(u16),
     Refused(RingError),

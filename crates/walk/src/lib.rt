@@ -16,7 +16,7 @@ use desc::Descriptor;
 
 // How far a walk has come: the next slot, what was counted, whether NEXT says that there is more, whether a writable element was
 // seen, and whether the chain is bad.
-#[derive(Drop)]
+#[derive(Clone, Copy)]
 pub struct Walk {
     pub at: RingCursor,
     pub count: u16,

@@ -9,14 +9,14 @@ use base::pick;
 use desc::Descriptor;
 
 // "a struct with a &[u8] table and its size": the bytes from the table's first on, and how many slots there are.
-#[derive(Drop)]
+#[derive(Clone, Copy)]
 pub struct Window<'a> {
     pub table: &'a [u8],
     pub size: u16,
 }
 
 // A slot that is there is shown as it stands, whatever its marks say.
-#[derive(Drop)]
+#[derive(Clone, Copy)]
 pub enum Slot {
     Holds(Descriptor),
     Nothing,

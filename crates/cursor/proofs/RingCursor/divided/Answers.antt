@@ -9,11 +9,7 @@ use Rattle.base.proofs.Tests.{by_lt}
 use Rattle.cursor.specs.Cursor.{at}
 use Rattle.cursor.proofs.Laws.{steps_within, steps_past}
 use Rattle.cursor.proofs.Ready.{Ready, ready}
-use Rattle.cursor.proofs.RingCursor.divided.Statement.{statement}
-use Rattle.cursor.proofs.RingCursor.divided.Tie as tie
-
-known : (c : tie.After-struct-known) → let a = c.before.args in Ready a.size a.n a.self
-known c = let a = c.before.args in ready a.size a.n a.self c.before.requires
+use Rattle.cursor.proofs.RingCursor.divided.Goals as goal
 
 -- a sum below the size, and one that is less than twice the size
 within : {x m : ℕ} → x < m → (x / m ≡ 0) × (x % m ≡ x)
@@ -33,37 +29,31 @@ odd e h = omega arith
 even : {q : ℕ} → q ≡ 0 → (q % 2 ≡ 0 → ⊥) → ⊥
 even e h = omega arith
 
-add-new : tie.Need-overflow-add-new
-add-new c = omega (arith, known c)
+pub overflow_add-new : goal.overflow_add-new
+overflow_add-new c = omega (arith, (let known : let a = c.args in Ready a.size a.n a.self = let a = c.args in ready a.size a.n a.self c.requires in known))
 
-div-wraps : tie.Need-nonzero-div-wraps
-div-wraps c = omega (arith, known c)
+pub nonzero_div-wraps : goal.nonzero_div-wraps
+nonzero_div-wraps c = omega (arith, (let known : let a = c.args in Ready a.size a.n a.self = let a = c.args in ready a.size a.n a.self c.requires in known))
 
-rem-t8 : tie.Need-nonzero-rem-t8
-rem-t8 c = omega (arith, known c.before)
+pub nonzero_rem-result : goal.nonzero_rem-result
+nonzero_rem-result c = omega (arith, (let known : let a = c.args in Ready a.size a.n a.self = let a = c.args in ready a.size a.n a.self c.requires in known))
 
-returns : tie.Need-returns
-returns c =
-    let a = c.before.before.args in
-    let k = known c.before in
+pub returns-then-wraps-eq0 : goal.returns-then-wraps-eq0
+returns-then-wraps-eq0 c =
+    let a = c.args in
+    let k = (let known : let a = c.args in Ready a.size a.n a.self = let a = c.args in ready a.size a.n a.self c.requires in known) in
     let new : ℕ = a.self.head + a.n in
     by_lt new a.size
     (λ l. ap (λ (x : ℕ). at x a.self.wrap) (within l).1 ∙ sym (steps_within a.size a.n a.self l))
-    (λ l. absurd (odd (past l (omega arith)).0 c.if1.true))
+    (λ l. absurd (odd (past l (omega arith)).0 c.if-wraps-eq0.true))
 
-rem-t6 : tie.Need-nonzero-rem-t6
-rem-t6 c = omega (arith, known c.before)
-
-returns-2 : tie.Need-returns-2
-returns-2 c =
-    let a = c.before.before.before.args in
-    let k = known c.before.before in
+pub returns : goal.returns
+returns c =
+    let a = c.args in
+    let k = (let known : let a = c.args in Ready a.size a.n a.self = let a = c.args in ready a.size a.n a.self c.requires in known) in
     let new : ℕ = a.self.head + a.n in
     by_lt new a.size
-    (λ l. absurd (even (within l).0 c.before.if1.false))
+    (λ l. absurd (even (within l).0 c.if-wraps-eq0.false))
     (λ l.
     ap (λ (x : ℕ). at x (not a.self.wrap)) (past l (omega arith)).1
     ∙ sym (steps_past a.size a.n a.self k.head k.move l))
-
-pub divided-spec : {M : Type 1} → statement M
-divided-spec = tie.close (tie.spec add-new div-wraps rem-t8 returns rem-t6 returns-2)

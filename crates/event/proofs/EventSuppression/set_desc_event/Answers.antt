@@ -6,25 +6,15 @@ use Prim.Native.Nat.{ℕ, ◌+◌, ◌%◌, ◌<◌}
 use mathlib.Core.Path.{◌≡◌, ap}
 use mathlib.Core.Bool.{Bool, true, false, cond}
 use Rattle.event.specs.Event.{event, set_desc_event}
-use Rattle.event.proofs.EventSuppression.set_desc_event.Statement.{statement}
-use Rattle.event.proofs.EventSuppression.set_desc_event.Tie as tie
+use Rattle.event.proofs.EventSuppression.set_desc_event.Goals as goal
 
 off-fits : (o : ℕ) (w : Bool) → o % 32768 + cond w 32768 0 < 65536
 off-fits o true = omega arith
 off-fits o false = omega arith
 
-pick16-requires : tie.Need-pick16-requires
-pick16-requires c κs = search rules
-
-add-t6 : tie.Need-overflow-add-t6
-add-t6 c = let a = c.before.args in omega (arith, off-fits a.off a.wrap)
-
-returns : tie.Need-returns
+pub returns : goal.returns
 unfolding set_desc_event
 returns c =
-    let a = c.before.args in
+    let a = c.args in
     let wrap : ◌≡◌ {A = ℕ} c.pick16.result (cond a.wrap 32768 0) = c.pick16.ensures in
     ap (λ (x : ℕ). event (a.off % 32768 + x) a.self.flags) wrap
-
-pub set-desc-event-spec : {M : Type 1} → statement M
-set-desc-event-spec = tie.close (tie.spec pick16-requires add-t6 returns)

@@ -1,0 +1,19 @@
+-- `cursor::RingCursor::advance` meets its contract: a single step is a move by one.
+-- Assumes nothing.
+use borrow.Author.Rules.{rules}
+use mathlib.Core.Path.{sym, ap, ◌∙◌}
+use Rattle.base.specs.Answer.{done}
+use Rattle.cursor.specs.declared.RingCursor.{RingCursor}
+use Rattle.cursor.specs.Cursor.{outcome, values_of}
+use Rattle.cursor.proofs.Ready.{ready, advance_ready, advance_refused}
+use Rattle.cursor.proofs.Laws.{steps_one}
+use Rattle.cursor.proofs.RingCursor.advance.Goals as goal
+
+pub returns-then-refuses : goal.returns-then-refuses
+returns-then-refuses c = let a = c.args in sym (advance_refused a.size 1 a.self (sym c.refuses.ensures ∙ c.if-refuses.true))
+
+pub returns : goal.returns
+returns c =
+    let a = c.args in
+    ap (λ (d : RingCursor). outcome (done (values_of d)) d) (c.stepped.ensures ∙ sym (steps_one a.size a.self))
+    ∙ sym (advance_ready a.size 1 a.self (ready a.size 1 a.self (sym c.refuses.ensures ∙ c.if-refuses.false)))
