@@ -106,7 +106,10 @@ def fall_together(top, own):
     for path in files(top, ".antt"):
         code = "\n".join(l for l in read(path).split("\n") if not l.lstrip().startswith("--"))
         words[path] = {w for w in WORD.findall(code) if odd(w)}
+        # a word that the kit's port.py has brought to snake case already, where it is brought in or declared
+        brought = {w.strip() for l in re.findall(r"^use \S+\.\{(.*)\}", code, re.M) for w in l.split(",")}
         declared[path] = {m[1] for m in map(DECLARED.match, code.split("\n")) if m}
+        words[path] |= {w for w in brought | declared[path] if re.match(r"^[a-z][a-z0-9_']*$", w)}
         short[path] = set(re.findall(r"^use \S+ as (\S+)$", code, re.M))
     real = set().union(*(declared[p] for p in words if REAL.search(p)))
     twins = collections.defaultdict(set)
@@ -115,6 +118,11 @@ def fall_together(top, own):
             twins[snake(w)].add(w)
     for plain, both in twins.items():
         dashed, camel = {w for w in both if "-" in w}, {w for w in both if "-" not in w}
+        # a test whose lemma has the plain name already
+        for w in camel - {plain}:
+            for path in words:
+                if w in declared[path] and plain in declared[path]:
+                    OTHER[path][w] = plain + "_test"
         if not dashed or not camel or not any(words[p] & dashed and words[p] & camel for p in words):
             continue
         for w in dashed:

@@ -38,12 +38,12 @@ below_all f (suc n) t k h =
 
 -- ---- Booleans, pairs and lists compared
 
-same_bool : Bool → Bool → Bool
-same_bool true b = b
-same_bool false b = not b
+same_bool_test : Bool → Bool → Bool
+same_bool_test true b = b
+same_bool_test false b = not b
 
-same_bool : (a b : Bool) → T (same_bool a b) → a ≡ b
-unfolding same_bool
+same_bool : (a b : Bool) → T (same_bool_test a b) → a ≡ b
+unfolding same_bool_test
 same_bool true true t = refl
 same_bool true false t = absurd t
 same_bool false true t = absurd t
@@ -56,21 +56,21 @@ module _ {A : Type 0} (same : A → A → Bool) (sound : (a b : A) → T (same a
   same_list (x ∷ xs) [] = false
   same_list (x ∷ xs) (y ∷ ys) = same x y && same_list xs ys
 
-  same_list : (xs ys : List A) → T (same_list xs ys) → xs ≡ ys
+  same_list_lem : (xs ys : List A) → T (same_list xs ys) → xs ≡ ys
   unfolding same_list
-  same_list [] [] t = refl
-  same_list [] (y ∷ ys) t = absurd t
-  same_list (x ∷ xs) [] t = absurd t
-  same_list (x ∷ xs) (y ∷ ys) t =
+  same_list_lem [] [] t = refl
+  same_list_lem [] (y ∷ ys) t = absurd t
+  same_list_lem (x ∷ xs) [] t = absurd t
+  same_list_lem (x ∷ xs) (y ∷ ys) t =
       let p = both_true (same x y) (same_list xs ys) t in
-      ap₂ (λ (a : A) (l : List A). a ∷ l) (sound x y p.0) (same_list xs ys p.1)
+      ap₂ (λ (a : A) (l : List A). a ∷ l) (sound x y p.0) (same_list_lem xs ys p.1)
 
 same_pair : ℕ × ℕ → ℕ × ℕ → Bool
 same_pair p q = eqb p.0 q.0 && eqb p.1 q.1
 
-same_pair : (p q : ℕ × ℕ) → T (same_pair p q) → p ≡ q
+same_pair_lem : (p q : ℕ × ℕ) → T (same_pair p q) → p ≡ q
 unfolding same_pair
-same_pair p q t =
+same_pair_lem p q t =
     let b = both_true (eqb p.0 q.0) (eqb p.1 q.1) t in
     λ i. (eqb→eq p.0 q.0 b.0 i, eqb→eq p.1 q.1 b.1 i)
 
@@ -157,10 +157,10 @@ bare_tests op =
     || eqb op 46
 
 bare_right : ℕ → Bool
-bare_right op = same_bool (bare_tests op) (eqb (fixed_of op) 1)
+bare_right op = same_bool_test (bare_tests op) (eqb (fixed_of op) 1)
 
 pub bare_right_lem : (op : ℕ) → op < 256 → bare_tests op ≡ eqb (fixed_of op) 1
-unfolding bare_right fixed_of rows all_below same_bool
+unfolding bare_right fixed_of rows all_below same_bool_test
 bare_right_lem op h = same_bool (bare_tests op) (eqb (fixed_of op) 1) (below_all bare_right 256 tt op h)
 
 -- the widths: picks, the last made standing first
@@ -222,7 +222,7 @@ flags_right op = same_list eqb eqb→eq (picked ((eqb op 1 || eqb op 2, 13) ∷ 
 flags_same : (op : ℕ) → op < 256 → picked ((eqb op 1 || eqb op 2, 13) ∷ flag_tests op) ≡ flags_of 1 (fields_of op)
 unfolding flags_right fields_of rows all_below same_list
 flags_same op h =
-    same_list eqb eqb→eq (picked ((eqb op 1 || eqb op 2, 13) ∷ flag_tests op)) (flags_of 1 (fields_of op))
+    same_list_lem eqb eqb→eq (picked ((eqb op 1 || eqb op 2, 13) ∷ flag_tests op)) (flags_of 1 (fields_of op))
     (below_all flags_right 256 tt op h)
 
 pub flags_right_lem :
@@ -266,7 +266,7 @@ counts_right op = same_list eqb eqb→eq (picked ((first_count op, 1) ∷ count_
 counts_same : (op : ℕ) → op < 256 → picked ((first_count op, 1) ∷ count_tests op) ≡ places (counts_of 1 (fields_of op))
 unfolding counts_right fields_of rows all_below same_list places
 counts_same op h =
-    same_list eqb eqb→eq (picked ((first_count op, 1) ∷ count_tests op)) (places (counts_of 1 (fields_of op)))
+    same_list_lem eqb eqb→eq (picked ((first_count op, 1) ∷ count_tests op)) (places (counts_of 1 (fields_of op)))
     (below_all counts_right 256 tt op h)
 
 pub counts_right_lem :
@@ -282,12 +282,12 @@ counts_right_lem op s h =
 
 lists_right : ℕ → Bool
 lists_right op =
-    same_list same_pair same_pair (picked ((eqb op 3 || eqb op 4, (1, 12)) ∷ list_tests op)) (listed (counts_of 1 (fields_of op)))
+    same_list same_pair same_pair_lem (picked ((eqb op 3 || eqb op 4, (1, 12)) ∷ list_tests op)) (listed (counts_of 1 (fields_of op)))
 
 lists_same : (op : ℕ) → op < 256 → picked ((eqb op 3 || eqb op 4, (1, 12)) ∷ list_tests op) ≡ listed (counts_of 1 (fields_of op))
 unfolding lists_right fields_of rows all_below same_list same_pair listed
 lists_same op h =
-    same_list same_pair same_pair (picked ((eqb op 3 || eqb op 4, (1, 12)) ∷ list_tests op)) (listed (counts_of 1 (fields_of op)))
+    same_list_lem same_pair same_pair_lem (picked ((eqb op 3 || eqb op 4, (1, 12)) ∷ list_tests op)) (listed (counts_of 1 (fields_of op)))
     (below_all lists_right 256 tt op h)
 
 pub lists_right_lem :

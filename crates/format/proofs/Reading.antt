@@ -65,8 +65,8 @@ module _ (s t : Slice) (k : ℕ) (e : t ≡ from_of 1 k s) where
   word_behind : (i w : ℕ) → word_at t.elements i w ≡ word_at s.elements (k + i) w
   word_behind i w = ap (λ (x : List ℕ). word_at x i w) behind ∙ word_drop s.elements k i w
 
-  word_at : (w : ℕ) → word_at t.elements 0 w ≡ word_at s.elements k w
-  word_at w = word_behind 0 w ∙ ap (λ (j : ℕ). word_at s.elements j w) (add-zero k)
+  word_at_lem : (w : ℕ) → word_at t.elements 0 w ≡ word_at s.elements k w
+  word_at_lem w = word_behind 0 w ∙ ap (λ (j : ℕ). word_at s.elements j w) (add-zero k)
 
   byte_behind : (i : ℕ) → get_or t.elements i 0 ≡ get_or s.elements (k + i) 0
   byte_behind i = ap (λ (x : List ℕ). get_or x i 0) behind ∙ get_or-drop k s.elements i 0
@@ -76,26 +76,26 @@ module _ (s t : Slice) (k : ℕ) (e : t ≡ from_of 1 k s) where
       {a b r : ℕ} → a ≡ get_or t.elements 0 0 → b ≡ get_or t.elements 1 0 → r ≡ word_at (a ∷ b ∷ []) 0 2
       → r ≡ word_at s.elements k 2
   unfolding word_at
-  half_behind p q h = h ∙ ap₂ (λ (x y : ℕ). x + 256 * (y + 256 * 0)) p q ∙ word_at 2
+  half_behind p q h = h ∙ ap₂ (λ (x y : ℕ). x + 256 * (y + 256 * 0)) p q ∙ word_at_lem 2
 
   pub word_whole :
       {a b c d r : ℕ} → a ≡ get_or t.elements 0 0 → b ≡ get_or t.elements 1 0 → c ≡ get_or t.elements 2 0
       → d ≡ get_or t.elements 3 0 → r ≡ word_at (a ∷ b ∷ c ∷ d ∷ []) 0 4 → r ≡ word_at s.elements k 4
   unfolding word_at
   word_whole p q u v h =
-      h ∙ (λ i. p i + 256 * (q i + 256 * (u i + 256 * (v i + 256 * 0)))) ∙ word_at 4
+      h ∙ (λ i. p i + 256 * (q i + 256 * (u i + 256 * (v i + 256 * 0)))) ∙ word_at_lem 4
 
   pub long_behind :
       {a b r : ℕ} → a ≡ word_at t.elements 0 4 → b ≡ word_at t.elements 4 4 → r ≡ a + 256 ^ 4 * b
       → r ≡ word_at s.elements k 8
   long_behind p q h =
-      h ∙ ap₂ (λ (x y : ℕ). x + 256 ^ 4 * y) (p ∙ word_at 4) (q ∙ word_behind 4 4) ∙ word_split s.elements k 4 4
+      h ∙ ap₂ (λ (x y : ℕ). x + 256 ^ 4 * y) (p ∙ word_at_lem 4) (q ∙ word_behind 4 4) ∙ word_split s.elements k 4 4
 
   -- a head and the wrap behind it
   pub cursor_behind :
       {h : ℕ} {b : Bool} → h ≡ word_at t.elements 0 2 → b ≡ bit_at t.elements 2 → at h b ≡ cursor_at s.elements k
   unfolding bit_at cursor_at
-  cursor_behind p q = ap₂ at (p ∙ word_at 2) (q ∙ ap (λ (x : ℕ). eqb x 1) (byte_behind 2))
+  cursor_behind p q = ap₂ at (p ∙ word_at_lem 2) (q ∙ ap (λ (x : ℕ). eqb x 1) (byte_behind 2))
 
 -- ---- numbers at a stride
 

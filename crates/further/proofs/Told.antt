@@ -69,9 +69,9 @@ module _ (place : ℕ) (c : RingCursor) (ring : List ℕ) (fits : place + 4 ≤ 
   unfolding set_flags set_desc_event
   first_word = omega (arith, low)
 
-  set_flags : flags_of set ≡ DESC
+  set_flags_lem : flags_of set ≡ DESC
   unfolding set_flags set_desc_event
-  set_flags = omega arith
+  set_flags_lem = omega arith
 
   word_off : (w : Bool) → (c.head + cond w 32768 0) % 32768 ≡ c.head
   word_off true = omega (arith, low)
@@ -91,7 +91,7 @@ module _ (place : ℕ) (c : RingCursor) (ring : List ℕ) (fits : place + 4 ≤ 
       let w : (event_at place (armed place c.head c.wrap ring)).off_wrap ≡ c.head + cond c.wrap 32768 0 =
       ap (λ (e : EventSuppression). e.off_wrap) read_back ∙ d.0 ∙ first_word in
       record {
-        flags = ap flags_of read_back ∙ d.1 ∙ set_flags;
+        flags = ap flags_of read_back ∙ d.1 ∙ set_flags_lem;
         off = ap (λ (n : ℕ). n % 32768) w ∙ word_off c.wrap;
         wrap = ap (λ (n : ℕ). eqb (n / 32768) 1) w ∙ word_wrap c.wrap;
       }

@@ -25,15 +25,15 @@ out_at k q f = producer_answers (world k).producer.end q ≡ answer.done (f (slo
 abbrev held_at : (k : ℕ) (q : ConsumerQuestion) (f : ℕ → ℕ) → Type 0
 held_at k q f = consumer_answers (world k).consumer.end q ≡ answer.done (f (slots_in (items (held (until k)))) ∷ [])
 
-out_at :
+out_at_lem :
     (k : ℕ) (q : ProducerQuestion) (f : ℕ → ℕ)
     → producer_answers (world k).producer.end q ≡ answer.done (f (slots_in (out (history_in packed (first k)))) ∷ []) → out_at k q f
-out_at k q f z = subst (λ t. producer_answers (world k).producer.end q ≡ answer.done (f (slots_in (out t)) ∷ [])) (spoken k) z
+out_at_lem k q f z = subst (λ t. producer_answers (world k).producer.end q ≡ answer.done (f (slots_in (out t)) ∷ [])) (spoken k) z
 
-held_at :
+held_at_lem :
     (k : ℕ) (q : ConsumerQuestion) (f : ℕ → ℕ)
     → consumer_answers (world k).consumer.end q ≡ answer.done (f (slots_in (items (held (history_in packed (first k))))) ∷ []) → held_at k q f
-held_at k q f z = subst (λ t. consumer_answers (world k).consumer.end q ≡ answer.done (f (slots_in (items (held t))) ∷ [])) (spoken k) z
+held_at_lem k q f z = subst (λ t. consumer_answers (world k).consumer.end q ≡ answer.done (f (slots_in (items (held t))) ∷ [])) (spoken k) z
 
 -- `producer_num_free`, `producer_num_inflight`, `producer_is_full`, `producer_len`
 pub producer_counts :
@@ -43,9 +43,9 @@ pub producer_counts :
     × (producer_answers (world 28).producer.end producer_len ≡ answer.done (3 ∷ []))
 unfolding out
 producer_counts = (
-  out_at 28 producer_num_free (λ n. 3 - n) (counted.producer_num_free_lem (first 28)),
-  out_at 28 producer_num_inflight (λ n. n) (counted.producer_num_inflight_lem (first 28)),
-  out_at 28 producer_is_full (λ n. bit (eqb n 3)) (counted.producer_is_full_lem (first 28)),
+  out_at_lem 28 producer_num_free (λ n. 3 - n) (counted.producer_num_free_lem (first 28)),
+  out_at_lem 28 producer_num_inflight (λ n. n) (counted.producer_num_inflight_lem (first 28)),
+  out_at_lem 28 producer_is_full (λ n. bit (eqb n 3)) (counted.producer_is_full_lem (first 28)),
   counted.producer_len_lem (first 28),
 )
 
@@ -57,9 +57,9 @@ pub consumer_counts :
     × (consumer_answers (world 32).consumer.end consumer_len ≡ answer.done (3 ∷ []))
 unfolding held polls
 consumer_counts = (
-  held_at 32 consumer_num_free (λ n. 3 - n) (counted.consumer_num_free_lem (first 32)),
-  held_at 32 consumer_num_inflight (λ n. n) (counted.consumer_num_inflight_lem (first 32)),
-  held_at 32 consumer_is_full (λ n. bit (eqb n 3)) (counted.consumer_is_full_lem (first 32)),
+  held_at_lem 32 consumer_num_free (λ n. 3 - n) (counted.consumer_num_free_lem (first 32)),
+  held_at_lem 32 consumer_num_inflight (λ n. n) (counted.consumer_num_inflight_lem (first 32)),
+  held_at_lem 32 consumer_is_full (λ n. bit (eqb n 3)) (counted.consumer_is_full_lem (first 32)),
   counted.consumer_len_lem (first 32),
 )
 
@@ -68,4 +68,4 @@ pub two_more_are_free : producer_answers (world 24).producer.end producer_num_fr
 unfolding pubs reclaims out
 two_more_are_free =
     counted.num_free_grows (first 24) (until 23) (done 2 32) (spoken 24) 0 second_is_of_a a refl 1
-    (out_at 23 producer_num_free (λ n. 3 - n) (counted.producer_num_free_lem (first 23)))
+    (out_at_lem 23 producer_num_free (λ n. 3 - n) (counted.producer_num_free_lem (first 23)))

@@ -34,7 +34,7 @@ use Rattle.queue.specs.Sentences.{All}
 use Rattle.queue.proofs.Listing.{all_right, items_append}
 use Rattle.queue.proofs.Model.{Queue, next, tail}
 use Rattle.queue.specs.Says.{first_of}
-use Rattle.queue.proofs.Says.{says_refused, first_of}
+use Rattle.queue.proofs.Says.{says_refused, first_of_lem}
 use Rattle.packed.specs.Calls.{asks, valid_outputs}
 use Rattle.packed.specs.Machine.{World, checkpoint_in, after_consumer}
 use Rattle.packed.proofs.Answers.{says_polled, says_peeked, after_taken, and_true, and_false}
@@ -187,7 +187,7 @@ module _ (l : Layout) (laid_out : bad_layout l ≡ false) where
 
         -- what is read off the outputs is the chain
         taken_first : (vs outs' : List ℕ) → length vs ≤ length outs' → first_of (length vs) (sets outs' 0 vs) ≡ vs
-        taken_first vs outs' h = first_of (length vs) (sets outs' 0 vs) (omega (arith, length-sets outs' 0 vs, h)) ∙ part_same vs outs' 0 (omega arith)
+        taken_first vs outs' h = first_of_lem (length vs) (sets outs' 0 vs) (omega (arith, length-sets outs' 0 vs, h)) ∙ part_same vs outs' 0 (omega arith)
 
         says_x : says_polled size outs louts (poll_of w.consumer.end w.ring w.consumer.counts outs louts) ≡ said.polled x
         says_x =

@@ -17,10 +17,10 @@ use Rattle.queue.specs.Machine.{number_of, Accepts, OfKind}
 use Rattle.queue.specs.Says.{first_of, accepted, says}
 
 -- of a list that is long enough, its first n
-pub first_of : (n : ℕ) (l : List ℕ) → n ≤ length l → first_of n l ≡ take n l
-first_of zero l h = refl
-first_of (suc n) [] h = absurd (omega arith)
-first_of (suc n) (x ∷ l) h = ap (λ (t : List ℕ). x ∷ t) (first_of n l (omega arith))
+pub first_of_lem : (n : ℕ) (l : List ℕ) → n ≤ length l → first_of n l ≡ take n l
+first_of_lem zero l h = refl
+first_of_lem (suc n) [] h = absurd (omega arith)
+first_of_lem (suc n) (x ∷ l) h = ap (λ (t : List ℕ). x ∷ t) (first_of_lem n l (omega arith))
 
 module _ {C : Type 0} (checkpoint_in : List ℕ → C) where
   -- an accepted call and a refused one

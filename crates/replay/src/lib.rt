@@ -3,9 +3,11 @@
 
 ghost use Rattle.std.specs.Prelude.{◌≤◌, length};
 
-use libc::{STDIN_FILENO, STDOUT_FILENO};
 use lines::output;
 use replay_step::{Run, Turn, step};
+
+const STDIN_FILENO: i32 = 0;
+const STDOUT_FILENO: i32 = 1;
 
 // The longest line: 4,096 addresses and lengths, of 32 bytes with their spaces, and a few numbers more.
 const LINE: usize = 131200;

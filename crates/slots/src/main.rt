@@ -2,7 +2,7 @@
 // in the region (32 bits), both little-endian, and then the region's bytes. What each line says is the library's.
 #![tactic(auto)]
 
-use libc::STDOUT_FILENO;
+const STDOUT_FILENO: i32 = 1;
 
 fn main() {
     let mut input = io::large_buffer();

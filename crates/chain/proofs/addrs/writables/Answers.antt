@@ -1,0 +1,12 @@
+-- `chain::addrs::writables` meets its contract: each exit by the test that led to it.
+-- Assumes nothing.
+use borrow.Author.Rules.{rules}
+use Rattle.base.specs.Part.{slice}
+use Rattle.chain.proofs.Laws.{writables_fit, none_writable}
+use Rattle.chain.proofs.addrs.writables.Goals as goal
+
+pub returns-then-readable-addrs : goal.returns-then-readable-addrs
+returns-then-readable-addrs c = let a = c.args in writables_fit 8 a.readable (slice a.addrs.ref_ptr a.addrs.now) c.if-readable-addrs.true
+
+pub returns : goal.returns
+returns c = let a = c.args in none_writable 8 a.readable (slice a.addrs.ref_ptr a.addrs.now) c.if-readable-addrs.false

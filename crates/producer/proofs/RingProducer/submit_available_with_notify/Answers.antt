@@ -1,0 +1,15 @@
+-- `producer::RingProducer::submit_available_with_notify` meets its contract: what the submission left, and what the device's event area asks.
+-- Assumes nothing.
+use borrow.Author.Rules.{rules}
+use mathlib.Core.Path.{ap, ◌∙◌}
+use Rattle.producer.specs.Outcome.{outcome}
+use Rattle.producer.specs.Tell.{tell_of}
+use Rattle.producer.proofs.RingProducer.submit_available_with_notify.Goals as goal
+
+pub returns : goal.returns
+unfolding tell_of
+returns c =
+    let a = c.args in
+    let s = c.submit_available-answer in
+    let t = c.told.ensures in
+    (λ i. outcome (t i).answer (t i).end s.new.1.0 a.ids.now s.new.1.1.1.0) ∙ ap (tell_of a.self.avail) s.ensures

@@ -1,0 +1,10 @@
+-- `producer::RingProducer::taken` meets its contract: field by field.
+-- Assumes nothing.
+use borrow.Author.Rules.{rules}
+use mathlib.Core.Path.{refl}
+use Rattle.producer.specs.Submit.{taken_of}
+use Rattle.producer.proofs.RingProducer.taken.Goals as goal
+
+pub returns : goal.returns
+unfolding taken_of
+returns c = refl

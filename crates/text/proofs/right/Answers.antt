@@ -1,0 +1,23 @@
+-- `text::right` meets its contract: blanks, and the digits that `io::decimal` gives.
+-- Assumes nothing.
+use borrow.Author.Rules.{rules}
+use native.Mathlib.Omega.{arith}
+use Prim.Native.Nat.{ℕ, ◌-◌}
+use mathlib.Core.Path.{◌≡◌, sym, ap, ap₂, ◌∙◌}
+use mathlib.Core.List.{List}
+use lib.ListN.{length, take}
+use Rattle.text.specs.Text.{decimal_of, blanks_of, Written, written, put_text}
+use Rattle.text.proofs.Decimal.{at_most_20}
+use Rattle.text.proofs.Texts.{right_put}
+use Rattle.text.proofs.right.Goals as goal
+
+pub returns : goal.returns
+returns c =
+    let a = c.args in
+    let d = c.decimal-k in
+    let w = written a.n a.out.now in
+    let t = take d.result d.new.1.0 in
+    let x20 = at_most_20 d.result a.x (search rules) d.ensures.1.0 in
+    c.put.ensures
+    ∙ ap (put_text t) (c.blanks-n.ensures ∙ ap (λ (m : ℕ). put_text (blanks_of m) w) c.less.ensures)
+    ∙ right_put w a.width d.result a.x t x20 d.ensures.1.0 d.ensures.1.1
