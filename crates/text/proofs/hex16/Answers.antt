@@ -16,4 +16,4 @@ returns c =
     let h = c.hex-k in
     c.put.ensures
     ∙ ap (λ (t : List ℕ). put_text t (written a.n a.out.now))
-    (hex_digits 16 h.result a.x (take h.result h.new.1.1.0) (omega arith) (search rules) h.ensures.1.0 h.ensures.1.1)
+    (hex_digits 16 h.result a.x (take h.result h.new.out) (omega arith) (search rules) h.ensures.len h.ensures.digits)

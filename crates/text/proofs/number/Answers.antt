@@ -16,12 +16,12 @@ pub returns-then-ends_by : goal.returns-then-ends_by
 returns-then-ends_by c =
     let a = c.args in
     let d = c.decimal-k in
-    number_put a.out.now a.n d.result a.x a.end ((let few : c.decimal-k.result ≤ 20 = at_most_20 c.decimal-k.result c.args.x (search rules) c.decimal-k.ensures.1.0 in few)) d.ensures.1.0
-    (take d.result d.new.1.0) c.put.new.ring d.ensures.1.1 ((let fits : let a = c.args in leb (a.n + (c.decimal-k.result + 1)) (length a.out.now) ≡ true = sym c.ends_by.ensures ∙ c.if-ends_by.true in fits)) c.put.ensures
+    number_put a.out.now a.n d.result a.x a.end ((let few : c.decimal-k.result ≤ 20 = at_most_20 c.decimal-k.result c.args.x (search rules) c.decimal-k.ensures.len in few)) d.ensures.len
+    (take d.result d.new.out) c.put.new.ring d.ensures.digits ((let fits : let a = c.args in leb (a.n + (c.decimal-k.result + 1)) (length a.out.now) ≡ true = sym c.ends_by.ensures ∙ c.if-ends_by.true in fits)) c.put.ensures
 
 pub returns : goal.returns
 returns c =
     let a = c.args in
     let d = c.decimal-k in
-    number_lost a.out.now a.n d.result a.x a.end ((let few : c.decimal-k.result ≤ 20 = at_most_20 c.decimal-k.result c.args.x (search rules) c.decimal-k.ensures.1.0 in few)) d.ensures.1.0
+    number_lost a.out.now a.n d.result a.x a.end ((let few : c.decimal-k.result ≤ 20 = at_most_20 c.decimal-k.result c.args.x (search rules) c.decimal-k.ensures.len in few)) d.ensures.len
     (sym c.ends_by.ensures ∙ c.if-ends_by.false)

@@ -16,8 +16,8 @@ returns c =
     let a = c.args in
     let d = c.decimal-k in
     let w = written a.n a.out.now in
-    let t = take d.result d.new.1.0 in
-    let x20 = at_most_20 d.result a.x (search rules) d.ensures.1.0 in
+    let t = take d.result d.new.out in
+    let x20 = at_most_20 d.result a.x (search rules) d.ensures.len in
     c.put.ensures
     ∙ ap (put_text t) (c.blanks-n.ensures ∙ ap (λ (m : ℕ). put_text (blanks_of m) w) c.less.ensures)
-    ∙ right_put w a.width d.result a.x t x20 d.ensures.1.0 d.ensures.1.1
+    ∙ right_put w a.width d.result a.x t x20 d.ensures.len d.ensures.digits

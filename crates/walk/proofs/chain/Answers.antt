@@ -11,7 +11,7 @@ use Rattle.walk.proofs.Laws.{walk_more, walk_done, walk_none, look_count, look_r
 use Rattle.walk.proofs.chain.Goals as goal
 
 pub returns-then-not-more : goal.returns-then-not-more
-returns-then-not-more c = sym (walk_done _ _ _ _ _ (not-true _ c.if-not-more.true)) ∙ c.loop-left.invariant.2
+returns-then-not-more c = sym (walk_done _ _ _ _ _ c.if-not-more.true) ∙ c.loop-left.invariant.2
 
 pub loop-left-preserved : goal.loop-left-preserved
 loop-left-preserved c =
@@ -23,7 +23,7 @@ loop-left-preserved c =
       rw e (omega (arith, look_count a.size h.w d)),
       rw e (omega (arith, look_count a.size h.w d, look_readable a.size h.w d)),
       ap (walk_of a.table a.size a.ring.now (h.left - 1)) e
-          ∙ sym (walk_more a.table a.size a.ring.now h.left h.w c.loop-left-test.true (not-false _ c.if-not-more.false))
+          ∙ sym (walk_more a.table a.size a.ring.now h.left h.w c.loop-left-test.true c.if-not-more.false)
           ∙ h.invariant.2,
     )
 

@@ -8,7 +8,7 @@ use Rattle.ring.specs.declared.AskedTable.TheVariants.{At}
 use Rattle.producer.proofs.RingProducer.desc_table.Goals as goal
 
 pub returns-then-record : goal.returns-then-record
-returns-then-record c = sym (ask_bad _ _ (sym c.«record».ensures ∙ c.if-record.true))
+returns-then-record c = sym (ask_bad _ _ (sym c.record.ensures ∙ c.if-record.true))
 
 pub returns : goal.returns
-returns c = ap table_answer (ap At c.from_raw_parts.ensures) ∙ sym (ask_good _ _ (sym c.«record».ensures ∙ c.if-record.false))
+returns c = ap table_answer (ap At c.from_raw_parts.ensures) ∙ sym (ask_good _ _ (sym c.record.ensures ∙ c.if-record.false))

@@ -6,7 +6,7 @@ use Rattle.ring.proofs.Asked.{ask_bad, ask_good}
 use Rattle.producer.proofs.RingProducer.len.Goals as goal
 
 pub returns-then-record : goal.returns-then-record
-returns-then-record c = sym (ask_bad _ _ (sym c.«record».ensures ∙ c.if-record.true))
+returns-then-record c = sym (ask_bad _ _ (sym c.record.ensures ∙ c.if-record.true))
 
 pub returns : goal.returns
-returns c = sym (ask_good _ _ (sym c.«record».ensures ∙ c.if-record.false))
+returns c = sym (ask_good _ _ (sym c.record.ensures ∙ c.if-record.false))

@@ -40,8 +40,8 @@ returns c =
     let n = length a.addrs.now in
     let id = c.at16-id.result in
     let w = c.chain-past in
-    let k : List ℕ = c.set16.new.0 in
-    ap₂ (λ (q : RingProducer) (m : List ℕ). outcome (done (id ∷ [])) q w.new.0 a.ids.now m)
+    let k : List ℕ = c.set16.new.s in
+    ap₂ (λ (q : RingProducer) (m : List ℕ). outcome (done (id ∷ [])) q w.new.ring a.ids.now m)
     c.taken.ensures c.set16.ensures
     ∙ ap (λ (x : Written). submitted_of p a.ids.now a.counts.now n id x) w.ensures
     ∙ ap (λ (x : ℕ). submitted_of p a.ids.now a.counts.now n x

@@ -12,4 +12,4 @@ returns c =
     let a = c.args in
     let s = c.submit_available-answer in
     let t = c.told.ensures in
-    (λ i. outcome (t i).answer (t i).end s.new.1.0 a.ids.now s.new.1.1.1.0) ∙ ap (tell_of a.self.avail) s.ensures
+    (λ i. outcome (t i).answer (t i).end s.new.ring a.ids.now s.new.counts) ∙ ap (tell_of a.self.avail) s.ensures

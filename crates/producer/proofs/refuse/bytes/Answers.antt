@@ -9,7 +9,7 @@ unfolding bytes_refusal
 returns c =
     simp (
       c.pick8.ensures,
-      c.«record».ensures,
+      c.record.ensures,
       c.pick8-eight.ensures,
       c.is_outside.ensures,
     )

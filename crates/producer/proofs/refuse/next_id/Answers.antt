@@ -9,7 +9,7 @@ unfolding next_refusal
 returns c =
     simp (
       c.pick8.ensures,
-      c.«record».ensures,
+      c.record.ensures,
       c.pick8-eight.ensures,
       c.pick8-four.ensures,
       c.pick8-five.ensures,

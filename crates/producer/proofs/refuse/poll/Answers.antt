@@ -9,7 +9,7 @@ unfolding poll_refusal
 returns c =
     simp (
       c.pick8.ensures,
-      c.«record».ensures,
+      c.record.ensures,
       c.pick8-eight.ensures,
       c.lent.ensures,
       c.pick8-three.ensures,

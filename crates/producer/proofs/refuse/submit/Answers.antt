@@ -9,7 +9,7 @@ unfolding submit_refusal
 returns c =
     simp (
       c.pick8.ensures,
-      c.«record».ensures,
+      c.record.ensures,
       c.pick8-eight.ensures,
       c.is_bad.ensures,
       c.lent-short.ensures,

@@ -21,7 +21,7 @@ returns c =
     let t = c.tails-past in
     ap (λ (l : List ℕ). written t.result l)
     (c.write.ensures
-    ∙ ap (λ (d : Descriptor). slot_put a.layout.table a.from d t.new.0)
+    ∙ ap (λ (d : Descriptor). slot_put a.layout.table a.from d t.new.ring)
     (c.mark_avail-head.ensures ∙ ap (λ (d : Descriptor). mark_avail d a.from.wrap) c.element.ensures))
     ∙ ap (λ (w : Written). written w.past (put_avail a.layout a.from (f 0) w.bytes))
     (t.ensures ∙ ap (λ (x : RingCursor). put_tails a.layout f (n - 1) 1 x a.ring.now) c.stepped.ensures)

@@ -21,7 +21,7 @@ loop-i-preserved c =
     let f = element_of a.id a.addrs.now a.lens.now a.readable in
     let n = length a.addrs.now in (
       omega arith,
-      c.write.auto.0 ∙ h.invariant.1,
+      c.write.auto.ring ∙ h.invariant.1,
       ap₂ (λ (x : RingCursor) (l : List ℕ). put_tails a.layout f (n - (h.i + 1)) (h.i + 1) x l)
           c.stepped-c.ensures
           (c.write.ensures
