@@ -1,0 +1,12 @@
+-- `consumer::RingConsumer::is_full` meets its contract: 7 or the value.
+-- Assumes nothing.
+use borrow.Author.Rules.{rules}
+use mathlib.Core.Path.{sym, ◌∙◌}
+use Rattle.ring.proofs.Asked.{ask_bad, ask_good}
+use Rattle.consumer.proofs.RingConsumer.is_full.Goals as goal
+
+pub returns-then-record : goal.returns-then-record
+returns-then-record c = sym (ask_bad _ _ (sym c.record.ensures ∙ c.if-record.true))
+
+pub returns : goal.returns
+returns c = sym (ask_good _ _ (sym c.record.ensures ∙ c.if-record.false))

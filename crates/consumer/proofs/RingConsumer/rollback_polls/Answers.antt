@@ -1,0 +1,63 @@
+-- `consumer::RingConsumer::rollback_polls` meets its contract: each exit by what was handed in, then by the list, then by the checkpoint.
+-- Assumes nothing.
+use borrow.Author.Rules.{rules}
+use native.Mathlib.Omega.{arith}
+use Prim.Native.Nat.{ℕ}
+use mathlib.Core.Path.{◌≡◌, sym, ap, ap₂, ◌∙◌}
+use mathlib.Core.List.{List, []}
+use lib.ListN.{length}
+use Rattle.base.specs.Refusals.{number_of}
+use Rattle.base.specs.Answer.{done, refused}
+use Rattle.base.proofs.Ladder.{refuses}
+use Rattle.cursor.proofs.Ready.{ready_not_bad}
+use Rattle.undo.specs.Undo as undo
+use Rattle.undo.specs.Undo.{sum_of, cleared_of}
+use Rattle.consumer.specs.declared.RingConsumer.{RingConsumer}
+use Rattle.consumer.specs.Outcome.{rolled}
+use Rattle.consumer.proofs.Rollback.{HandedReady, handed_ready, handed_below, rollback_stopped, rollback_refused, rollback_done, sum_stops, sum_goes, is_stale, is_current}
+use Rattle.consumer.proofs.RingConsumer.rollback_polls.Goals as goal
+
+pub returns-then-no-ne0 : goal.returns-then-no-ne0
+returns-then-no-ne0 c =
+    let a = c.args in
+    refuses (λ (x : ℕ). rolled (refused x) a.self a.counts.now) _ _ _ _
+    c.numbered.ensures c.handed-no.ensures c.if-no-ne0.true
+    (handed_below a.self a.cp (length a.counts.now))
+    (rollback_stopped a.self a.counts.now a.cp a.ids.now)
+
+pub returns-in_default : goal.returns-in_default
+returns-in_default c =
+    let a = c.args in
+    ap (λ (l : List ℕ). rolled (refused 9) a.self l) ((let as_before : c.sum.new.counts ≡ c.args.counts.now = ap (λ (o : undo.Outcome). o.counts) c.sum.ensures in as_before))
+    ∙ sym (rollback_refused a.self a.counts.now a.cp a.ids.now (sym c.handed-no.ensures ∙ c.if-no-ne0.false)
+    (sum_stops a.self a.counts.now a.cp a.ids.now ((let is-handed : let a = c.args in HandedReady a.self a.cp (length a.counts.now) = let a = c.args in
+    (handed_ready a.self a.cp (length a.counts.now) 0 (sym c.handed-no.ensures ∙ c.if-no-ne0.false)).0 in is-handed)) (number_of c.in_default.field-0) (sym (ap undo.answer_of c.in_default.is) ∙ (let is_sum : let a = c.args in undo.answer_of c.sum.result ≡ sum_of a.self.layout.size a.self.inflight a.counts.now a.ids.now = ap (λ (o : undo.Outcome). o.answer) c.sum.ensures in is_sum))))
+
+pub stale-requires : goal.stale-requires
+stale-requires c =
+    let a = c.args in
+    let h = (let is-handed : let a = c.args in HandedReady a.self a.cp (length a.counts.now) = let a = c.args in
+    (handed_ready a.self a.cp (length a.counts.now) 0 (sym c.handed-no.ensures ∙ c.if-no-ne0.false)).0 in is-handed) in
+    let l = h.sound.laid in
+    let n = sum_goes a.self a.counts.now a.cp a.ids.now h c.in-Slots.n (sym (ap undo.answer_of c.in-Slots.is) ∙ (let is_sum : let a = c.args in undo.answer_of c.sum.result ≡ sum_of a.self.layout.size a.self.inflight a.counts.now a.ids.now = ap (λ (o : undo.Outcome). o.answer) c.sum.ensures in is_sum)) in
+    ready_not_bad a.self.layout.size c.in-Slots.n a.cp.avail
+    (record { low = l.low; high = l.high; head = h.avail; move = omega (arith, n.1.0, n.1.1, h.sound.inflight) })
+
+pub returns-then-stale : goal.returns-then-stale
+returns-then-stale c =
+    let a = c.args in
+    let n = sum_goes a.self a.counts.now a.cp a.ids.now ((let is-handed : let a = c.args in HandedReady a.self a.cp (length a.counts.now) = let a = c.args in
+    (handed_ready a.self a.cp (length a.counts.now) 0 (sym c.handed-no.ensures ∙ c.if-no-ne0.false)).0 in is-handed)) c.in-Slots.n (sym (ap undo.answer_of c.in-Slots.is) ∙ (let is_sum : let a = c.args in undo.answer_of c.sum.result ≡ sum_of a.self.layout.size a.self.inflight a.counts.now a.ids.now = ap (λ (o : undo.Outcome). o.answer) c.sum.ensures in is_sum)) in
+    ap (λ (l : List ℕ). rolled (refused 9) a.self l) ((let as_before : c.sum.new.counts ≡ c.args.counts.now = ap (λ (o : undo.Outcome). o.counts) c.sum.ensures in as_before))
+    ∙ sym (rollback_refused a.self a.counts.now a.cp a.ids.now (sym c.handed-no.ensures ∙ c.if-no-ne0.false)
+    (is_stale a.self a.counts.now a.cp a.ids.now c.in-Slots.n n.1.0 (sym c.stale.ensures ∙ c.if-stale.true)))
+
+pub returns : goal.returns
+returns c =
+    let a = c.args in
+    let n = sum_goes a.self a.counts.now a.cp a.ids.now ((let is-handed : let a = c.args in HandedReady a.self a.cp (length a.counts.now) = let a = c.args in
+    (handed_ready a.self a.cp (length a.counts.now) 0 (sym c.handed-no.ensures ∙ c.if-no-ne0.false)).0 in is-handed)) c.in-Slots.n (sym (ap undo.answer_of c.in-Slots.is) ∙ (let is_sum : let a = c.args in undo.answer_of c.sum.result ≡ sum_of a.self.layout.size a.self.inflight a.counts.now a.ids.now = ap (λ (o : undo.Outcome). o.answer) c.sum.ensures in is_sum)) in
+    ap₂ (λ (q : RingConsumer) (l : List ℕ). rolled (done []) q l) c.back.ensures
+    (c.clear.ensures ∙ ap (λ (l : List ℕ). cleared_of l a.ids.now) ((let as_before : c.sum.new.counts ≡ c.args.counts.now = ap (λ (o : undo.Outcome). o.counts) c.sum.ensures in as_before)))
+    ∙ sym (rollback_done a.self a.counts.now a.cp a.ids.now (sym c.handed-no.ensures ∙ c.if-no-ne0.false)
+    (is_current a.self a.counts.now a.cp a.ids.now c.in-Slots.n n.1.0 n.0 (sym c.stale.ensures ∙ c.if-stale.false)))

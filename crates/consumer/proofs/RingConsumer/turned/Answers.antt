@@ -1,0 +1,27 @@
+-- `consumer::RingConsumer::turned` meets its contract: each exit by the tests that led to it.
+-- Assumes nothing.
+use borrow.Author.Rules.{rules}
+use Prim.Native.Nat.{ℕ}
+use mathlib.Core.Path.{sym, ap₂, ◌∙◌}
+use mathlib.Core.List.{List, []}
+use lib.ListN.{length}
+use Rattle.base.specs.Answer.{done, refused}
+use Rattle.base.proofs.Ladder.{refuses}
+use Rattle.consumer.specs.declared.RingConsumer.{RingConsumer}
+use Rattle.consumer.specs.Outcome.{changed}
+use Rattle.consumer.proofs.Ready.{bytes_below}
+use Rattle.consumer.proofs.Notices.{notice_refused, notice_done}
+use Rattle.consumer.proofs.RingConsumer.turned.Goals as goal
+
+pub returns-then-no-ne0 : goal.returns-then-no-ne0
+returns-then-no-ne0 c =
+    let a = c.args in
+    refuses (λ (x : ℕ). changed (refused x) a.self a.ring.now) _ _ _ _
+    c.numbered.ensures c.bytes-no.ensures c.if-no-ne0.true (bytes_below a.self (length a.ring.now))
+    (notice_refused a.self a.ring.now a.flags _)
+
+pub returns : goal.returns
+returns c =
+    let a = c.args in
+    ap₂ (λ (q : RingConsumer) (l : List ℕ). changed (done []) q l) c.shadowed.ensures c.turn.ensures
+    ∙ sym (notice_done a.self a.ring.now a.flags _ (sym c.bytes-no.ensures ∙ c.if-no-ne0.false))

@@ -1,0 +1,9 @@
+-- `consumer::fresh` meets its contract: field by field.
+-- Assumes nothing.
+use borrow.Author.Rules.{rules}
+use Rattle.consumer.specs.Fresh.{fresh_of}
+use Rattle.consumer.proofs.fresh.Goals as goal
+
+pub returns : goal.returns
+unfolding fresh_of
+returns c = cc

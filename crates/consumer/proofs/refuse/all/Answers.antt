@@ -1,0 +1,15 @@
+-- `consumer::refuse::all` meets its contract: the ladder is the definition's, rung by rung.
+-- Assumes nothing.
+use borrow.Author.Rules.{rules}
+use Rattle.consumer.specs.Record.{lent_refusal}
+use Rattle.consumer.proofs.refuse.all.Goals as goal
+
+pub returns : goal.returns
+unfolding lent_refusal
+returns c =
+    simp (
+      c.pick8.ensures,
+      c.record.ensures,
+      c.pick8-eight.ensures,
+      c.lent.ensures,
+    )

@@ -1,0 +1,9 @@
+-- `consumer::refuse::record` meets its contract: the tests are the definition's.
+-- Assumes nothing.
+use borrow.Author.Rules.{rules}
+use Rattle.consumer.specs.Record.{bad_record}
+use Rattle.consumer.proofs.refuse.record.Goals as goal
+
+pub returns : goal.returns
+unfolding bad_record
+returns c = cc

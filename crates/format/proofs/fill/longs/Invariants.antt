@@ -1,0 +1,13 @@
+-- `format::fill::longs` meets its contract. The loop's invariant: the first k entries are filled.
+-- Assumes nothing.
+use native.Mathlib.Omega.{arith}
+use Prim.Native.Nat.{ℕ, ◌-◌, ◌≤◌}
+use lib.ListN.{replicate, length-replicate, get_or-replicate}
+use Rattle.format.proofs.Filling.{Filled, fill_none, fill_next, fill_all}
+use Rattle.format.proofs.fill.longs.Given as goal
+
+abbrev pub invariant-loop-k : goal.invariant-loop-k
+invariant-loop-k l = (l.k ≤ l.n) × Filled (replicate l.n l.v) l.initial.s l.s l.k
+
+abbrev pub decreases-loop-k : goal.decreases-loop-k
+decreases-loop-k l = l.n - l.k
