@@ -1,0 +1,15 @@
+-- `slots::show` is safe and ends: one line after the other, each whole in the buffer.
+-- Assumes nothing.
+use borrow.Author.Rules.{rules}
+use Prim.Native.Nat.{◌≤◌, ◌-◌}
+use native.Mathlib.Omega.{arith}
+use mathlib.Core.Path.{◌≡◌}
+use lib.ListN.{length, length-take}
+use Rattle.dump.proofs.Short.{line_told}
+use Rattle.slots.proofs.show.Given as goal
+
+abbrev pub invariant-loop-k : goal.invariant-loop-k
+invariant-loop-k l = (l.k ≤ 2050) × (length l.text ≡ 192)
+
+abbrev pub decreases-loop-k : goal.decreases-loop-k
+decreases-loop-k l = 2050 - l.k
