@@ -8,7 +8,7 @@ use mathlib.Core.Bool.{false}
 use native.Mathlib.Omega.{arith}
 use lib.ListN.{replicate, get_or-replicate}
 use contract.Lifetimes.{Lfts}
-use denote.Ref.{Bor}
+use denote.Ref.{Bor, MutBor}
 use Rattle.base.specs.Answer as answer
 use Rattle.cursor.specs.Cursor.{fresh}
 use Rattle.layout.specs.Layout.{layout}
@@ -47,6 +47,10 @@ use Rattle.history.proofs.Ends.{zeros, geometry_of, typed, ids_fit, nothing_aske
 abbrev lent : List ℕ → Bor (List ℕ)
 lent l = record { ref_ptr = (0, 0); now = l }
 
+-- and one that is lent to be changed
+abbrev lent_mut : List ℕ → MutBor (List ℕ)
+lent_mut l = record { ref_ptr = (0, 0); ghost_name = 0; now = l }
+
 -- ---- the two openings: two slots over zero bytes
 
 abbrev opens_producer : made.Open
@@ -61,9 +65,9 @@ abbrev producer_new_lem : ProducerNew
 producer_new_lem =
     record {
       lifetimes = ([], ([], ([], tt)));
-      entry = (2, (0, (32, (36, (lent (zeros 40), (lent (zeros 2), (lent (zeros 2), tt)))))));
+      entry = (2, (0, (32, (36, (lent (zeros 40), (lent_mut (zeros 2), (lent_mut (zeros 2), tt)))))));
       result = made_opened.Ring (made.fresh_of (geometry_of 2));
-      exit = (2, (0, (32, (36, (lent (zeros 40), (lent opens_producer.ids, (lent opens_producer.counts, tt)))))));
+      exit = (2, (0, (32, (36, (lent (zeros 40), (lent_mut opens_producer.ids, (lent_mut opens_producer.counts, tt)))))));
       meets = producer_meets;
     }
 
@@ -82,9 +86,9 @@ abbrev consumer_new_lem : ConsumerNew
 consumer_new_lem =
     record {
       lifetimes = ([], ([], tt));
-      entry = (2, (0, (32, (36, (lent found, (lent (zeros 2), tt))))));
+      entry = (2, (0, (32, (36, (lent found, (lent_mut (zeros 2), tt))))));
       result = taken_opened.Ring (taken.fresh_of (geometry_of 2));
-      exit = (2, (0, (32, (36, (lent found, (lent opens_consumer.counts, tt))))));
+      exit = (2, (0, (32, (36, (lent found, (lent_mut opens_consumer.counts, tt))))));
       meets = consumer_meets;
     }
 
@@ -123,10 +127,10 @@ submit =
     producers (producer.real_submit_one (record {
       lifetimes = ([], ([], ([], tt)));
       entry =
-          (w0.producer.end, (lent w0.ring, (lent w0.producer.ids, (lent w0.producer.counts, (4096, (16, (false, tt)))))));
+          (w0.producer.end, (lent_mut w0.ring, (lent w0.producer.ids, (lent_mut w0.producer.counts, (4096, (16, (false, tt)))))));
       result = submitted_as.Id 1 submits.end;
       exit =
-          (w0.producer.end, (lent submits.ring, (lent w0.producer.ids, (lent submits.counts, (4096, (16, (false, tt)))))));
+          (w0.producer.end, (lent_mut submits.ring, (lent w0.producer.ids, (lent_mut submits.counts, (4096, (16, (false, tt)))))));
       meets = submit_meets;
     }))
 
@@ -146,9 +150,9 @@ abbrev poll : RealCall
 poll =
     consumers (consumer.real_poll_available (record {
       lifetimes = ([], ([], ([], ([], tt))));
-      entry = (w1.consumer.end, (lent w1.ring, (lent w1.consumer.counts, (lent (zeros 2), (lent (zeros 2), tt)))));
+      entry = (w1.consumer.end, (lent w1.ring, (lent_mut w1.consumer.counts, (lent_mut (zeros 2), (lent_mut (zeros 2), tt)))));
       result = polled_as.Chain (record { id = 1; count = 1; readable = 1 }) polls.end;
-      exit = (w1.consumer.end, (lent w1.ring, (lent polls.counts, (lent polls.addrs, (lent polls.lens, tt)))));
+      exit = (w1.consumer.end, (lent w1.ring, (lent_mut polls.counts, (lent_mut polls.addrs, (lent_mut polls.lens, tt)))));
       meets = poll_meets;
     }))
 
@@ -171,9 +175,9 @@ stray =
     to_another_producer (record { end = another no_slots; ids = its; counts = its }) its
     (producer.real_poll_used (record {
       lifetimes = ([], ([], ([], tt)));
-      entry = (no_slots, (lent w2.ring, (lent w2.producer.ids, (lent w2.producer.counts, tt))));
+      entry = (no_slots, (lent w2.ring, (lent_mut w2.producer.ids, (lent_mut w2.producer.counts, tt))));
       result = returned_as.Refused BadRecord no_slots;
-      exit = (no_slots, (lent w2.ring, (lent strays.ids, (lent strays.counts, tt))));
+      exit = (no_slots, (lent w2.ring, (lent_mut strays.ids, (lent_mut strays.counts, tt))));
       meets = stray_meets;
     }))
 
@@ -192,9 +196,9 @@ abbrev complete : RealCall
 complete =
     consumers (consumer.real_submit_used (record {
       lifetimes = ([], ([], tt));
-      entry = (w3.consumer.end, (lent w3.ring, (lent w3.consumer.counts, (1, (5, tt)))));
+      entry = (w3.consumer.end, (lent_mut w3.ring, (lent_mut w3.consumer.counts, (1, (5, tt)))));
       result = answered_as.Done completes.end;
-      exit = (w3.consumer.end, (lent completes.ring, (lent completes.counts, (1, (5, tt)))));
+      exit = (w3.consumer.end, (lent_mut completes.ring, (lent_mut completes.counts, (1, (5, tt)))));
       meets = complete_meets;
     }))
 
@@ -214,9 +218,9 @@ abbrev reclaim : RealCall
 reclaim =
     producers (producer.real_poll_used (record {
       lifetimes = ([], ([], ([], tt)));
-      entry = (w4.producer.end, (lent w4.ring, (lent w4.producer.ids, (lent w4.producer.counts, tt))));
+      entry = (w4.producer.end, (lent w4.ring, (lent_mut w4.producer.ids, (lent_mut w4.producer.counts, tt))));
       result = returned_as.Used (record { id = 1; len = 5 }) returns.end;
-      exit = (w4.producer.end, (lent w4.ring, (lent returns.ids, (lent returns.counts, tt))));
+      exit = (w4.producer.end, (lent w4.ring, (lent_mut returns.ids, (lent_mut returns.counts, tt))));
       meets = return_meets;
     }))
 

@@ -1,0 +1,10 @@
+-- `exchanged::memory::differ` is safe and ends. The measure is what is left of the bytes.
+-- Assumes nothing.
+use Rattle.std.proofs.Common.{◌-◌, ◌≤◌, rules}
+use Rattle.exchanged.proofs.memory.differ.Given as goal
+
+abbrev pub invariant-loop-k : goal.invariant-loop-k
+invariant-loop-k l = l.k ≤ l.n
+
+abbrev pub decreases-loop-k : goal.decreases-loop-k
+decreases-loop-k l = l.n - l.k
