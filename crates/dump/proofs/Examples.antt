@@ -4,7 +4,7 @@ use Prim.Native.Nat.{ℕ}
 use mathlib.Core.Path.{◌≡◌, refl, ◌∙◌}
 use mathlib.Core.List.{List, [], ◌∷◌, ◌++◌}
 use native.Mathlib.Omega.{arith}
-use lib.ListN.{length, replicate}
+use lib.ListN.{replicate}
 use Rattle.base.specs.Bytes.{word_at}
 use Rattle.dump.specs.declared.Header.TheVariants.{Ring, NoHeader, BadSize, TableOutside}
 use Rattle.base.specs.Bytes.{get_of}

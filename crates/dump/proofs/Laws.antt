@@ -10,7 +10,6 @@ use lib.ListN.{length, get_or}
 use borrow.Author.Tests.{lt-ltb, le-ltb}
 use Rattle.base.specs.Bytes.{word_at}
 use Rattle.desc.specs.Flags.{known}
-use Rattle.dump.specs.declared.Header.{Header}
 use Rattle.dump.specs.declared.Header.TheVariants.{Ring, NoHeader, BadSize, TableOutside}
 use Rattle.dump.specs.Header.{header_of, size_of, table_of}
 use Rattle.dump.specs.Names.{unnamed_of}

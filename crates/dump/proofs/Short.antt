@@ -3,7 +3,7 @@
 -- Assumes nothing.
 use Prim.Native.Nat.{ℕ, zero, suc, ◌+◌, ◌-◌, ◌*◌, ◌≤◌}
 use native.Mathlib.Omega.{arith}
-use mathlib.Core.Path.{◌≡◌, refl, sym, ap, ◌∙◌}
+use mathlib.Core.Path.{◌≡◌, refl, ap, ◌∙◌}
 use mathlib.Core.List.{List, [], ◌∷◌, ◌++◌}
 use mathlib.Core.Bool.{Bool, true, false, cond, ◌&&◌}
 use lib.Dec.{ltb, eqb}
@@ -20,8 +20,8 @@ use Rattle.dump.specs.declared.Header.TheVariants.{Ring, NoHeader, BadSize, Tabl
 use Rattle.dump.specs.declared.Names.{Names}
 use Rattle.dump.specs.Header.{header_of}
 use Rattle.dump.specs.Names.{names_of}
-use Rattle.dump.specs.Lines.{mark_text, named, flag_texts, slot_texts, whole_of, heading, missing_texts, ring_line}
-use Rattle.dump.specs.Lines.{bad_size_texts, outside_texts, no_header_texts, only_line, line_by, line_of}
+use Rattle.dump.specs.Lines.{mark_text, named, flag_texts, slot_texts, whole_of, missing_texts, ring_line}
+use Rattle.dump.specs.Lines.{bad_size_texts, outside_texts, no_header_texts, line_by, line_of}
 use Rattle.dump.proofs.line_of.Reads as Line-of
 
 -- ---- a slot's line

@@ -1,10 +1,10 @@
 -- Both round trips of an event area, from the one law over the number of bytes.
 -- Assumes nothing.
-use Prim.Native.Nat.{ℕ, ◌+◌, ◌^◌, ◌<◌}
+use Prim.Native.Nat.{ℕ, ◌^◌, ◌<◌}
 use mathlib.Core.Path.{◌≡◌, sym, ◌∙◌, ap, ap₂}
 use mathlib.Core.List.{List, [], ◌++◌, append-nil}
 use native.Mathlib.Omega.{arith}
-use lib.ListN.{length, take, length-append}
+use lib.ListN.{length, length-append}
 use lib.Seq.{take_all, take-add}
 use Rattle.base.specs.Bytes.{bytes_of, word_at}
 use Rattle.base.proofs.Words.{Bytes, bytes_are, bytes_append, word_bytes, word_after, bytes_word, length_bytes}

@@ -7,7 +7,6 @@ use mathlib.Core.List.{List, [], ◌∷◌}
 use mathlib.Core.Bool.{false}
 use native.Mathlib.Omega.{arith}
 use lib.ListN.{replicate, get_or-replicate}
-use contract.Lifetimes.{Lfts}
 use denote.Ref.{Bor, MutBor}
 use Rattle.base.specs.Answer as answer
 use Rattle.cursor.specs.Cursor.{fresh}
@@ -34,7 +33,7 @@ use Rattle.queue.specs.Machine.{history_of, FairCalls}
 use Rattle.queue.specs.Sentences.{ItsOwnBefore}
 use Rattle.queue.specs.Demand.{Demand3}
 use Rattle.packed.specs.Calls.{one_of, its, another}
-use Rattle.packed.specs.Machine.{World, submits_of, reclaims_of, polls_of, completes_of, packed}
+use Rattle.packed.specs.Machine.{World, submits_of, reclaims_of, polls_of, completes_of}
 use Rattle.packed.specs.RealProducer as producer
 use Rattle.packed.specs.RealConsumer as consumer
 use Rattle.packed.specs.Real.{ProducerNew, ConsumerNew, RealCall, RealOpening, real_opened, real_machine, RealRun, IsRun}

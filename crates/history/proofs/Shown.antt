@@ -7,20 +7,18 @@ use mathlib.Core.Logic.{◌⊎◌, inl, inr}
 use mathlib.Core.List.{List, [], ◌∷◌, ◌++◌}
 use mathlib.Core.Bool.{Bool, true}
 use native.Mathlib.Omega.{arith}
-use lib.Dec.{T, leb, leb→le}
-use lib.ListN.{length, get_or, take, drop}
-use borrow.Author.Tests.{le-leb}
+use lib.Dec.{T}
+use lib.ListN.{length, take, drop}
 use Rattle.consumer.specs.declared.Checkpoint.{Checkpoint}
 use Rattle.queue.specs.History.{Item, Event, History, Poll, slots_in, items, ids, times}
 use Rattle.queue.specs.History.{pubs, polls, comps, reclaims, standing, held, finished, out, waiting}
 use Rattle.queue.specs.History as said
-use Rattle.queue.specs.Promise.{Unlike, Fine, Undoes, Right, for_handed}
-use Rattle.queue.specs.Sentences.{All, At, Stands, Oldest, ItsOwn, ItsOwnBefore, RolledBack}
+use Rattle.queue.specs.Promise.{Unlike, Fine, Right, for_handed}
+use Rattle.queue.specs.Sentences.{At, Stands, Oldest, ItsOwn, ItsOwnBefore, RolledBack}
 use Rattle.queue.specs.Machine.{world_of, number_of}
 use Rattle.queue.proofs.Machine.{each_at}
 use Rattle.queue.proofs.Promises as shown
 use Rattle.packed.specs.Calls.{Given}
-use Rattle.packed.specs.Machine.{Lendings, leaves, kept_in}
 use Rattle.history.proofs.Ends.{world_three, strays, polls_for, done}
 use Rattle.history.proofs.Run.{a, b, c, d, e, f, g, h, i, c2, machine_three, rules_three, calls, answers, promised, undoes_two}
 use Rattle.history.proofs.Run.{poll_used_of_another, poll_over_others, open_producer, open_consumer, reset_producer, reset_consumer}

@@ -1,6 +1,6 @@
 -- Each public contract of the crate determines what its function answers and leaves.
 use Prim.Native.Nat.{ℕ}
-use mathlib.Core.Path.{◌≡◌, refl, ap}
+use mathlib.Core.Path.{◌≡◌, ap}
 use Rattle.base.specs.Determined.{Determined, both}
 use Rattle.base.proofs.Determine.{by_answer}
 use Rattle.cursor.specs.declared.RingCursor.{RingCursor}

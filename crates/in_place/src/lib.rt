@@ -51,7 +51,7 @@ pub fn advance(cursor: &mut RingCursor, size: u16) -> u8
     advance_by(cursor, size, 1)
 }
 
-// A cursor of this function's own is moved in place: its callers hand over plain values, so their proofs have no walk.
+// A cursor of this function's own is moved in place: its callers hand over plain values.
 pub fn advance_own(cursor: RingCursor, size: u16, n: u16) -> Left
     ensures { outcome_of result.number result.cursor ≡ advance_of size n cursor }
 {

@@ -19,7 +19,7 @@ use Rattle.queue.specs.History as said
 use Rattle.queue.specs.Says.{says}
 use Rattle.queue.proofs.Says.{says_refused}
 use Rattle.packed.specs.Calls.{asks, valid_chain, valid_outputs, valid_checkpoint}
-use Rattle.packed.specs.Machine.{World, ProducerLeaves, ConsumerLeaves, checkpoint_in, after_producer, after_consumer, made_all, made_changed}
+use Rattle.packed.specs.Machine.{World, checkpoint_in, after_producer, after_consumer, made_all, made_changed}
 use Rattle.packed.specs.Machine.{taken_chain, taken_all, taken_back, taken_changed}
 
 -- ---- the event of each kind of call, by its answer

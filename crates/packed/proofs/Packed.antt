@@ -2,7 +2,7 @@
 -- completion meeting its own submission.
 -- Assumes nothing.
 use Prim.Native.Nat.{ℕ}
-use mathlib.Core.Path.{◌≡◌, refl, sym, ap, ◌∙◌, subst}
+use mathlib.Core.Path.{◌≡◌, refl, sym, ap, subst}
 use mathlib.Core.Bool.{false}
 use mathlib.Core.List.{List, []}
 use lib.Dec.{T}
@@ -19,7 +19,7 @@ use Rattle.queue.proofs.Model.{Queue, start, model, next, AllOk}
 use Rattle.queue.proofs.Trace.{undo_of, undo_intact_of}
 use Rattle.queue.proofs.Machine.{Matches, matched, demanded, premise_drop}
 use Rattle.queue.proofs.Says.{says_number, says_kind}
-use Rattle.packed.specs.Calls.{ProducerCall, ConsumerCall, Own, Call, Given, TypedProducer, TypedConsumer, TypedCall, one_of, request_of}
+use Rattle.packed.specs.Calls.{ProducerCall, ConsumerCall, Call, Given, TypedProducer, TypedConsumer, TypedCall, one_of, request_of}
 use Rattle.packed.specs.Calls.{submit_available, submit_available_with_notify, submit_one, submit_one_with_notify, poll_used, next_id}
 use Rattle.packed.specs.Calls.{producer_asked, should_notify_since, turn_used, enable_used_desc, enable_used_for_next, producer_reset}
 use Rattle.packed.specs.Calls.{poll_available, submit_used, submit_used_with_notify, peek_available, poll_checkpoint, rollback_polls}
@@ -28,7 +28,7 @@ use Rattle.packed.specs.Calls.{by_producer, by_consumer, own, foreign}
 use Rattle.packed.specs.Machine.{World, checkpoint_in, producer_values, consumer_values, packed, machine_of, FairCall, call_says, leaves, given_in}
 use Rattle.packed.specs.Machine.{place_of}
 use Rattle.packed.specs.Machine.{own_answer, own_exit, call_answer, call_entry, call_exit, producer_does, consumer_does}
-use Rattle.packed.specs.Opening.{Opening, opened_world, machine, rules, Run, history_in, world_in, Demand}
+use Rattle.packed.specs.Opening.{opened_world, machine, rules, Run, history_in, world_in, Demand}
 use Rattle.packed.proofs.Invariant.{Match, Good, GoodAfter, like_unchanged}
 use Rattle.packed.proofs.Polls.{poll_good, peek_good}
 use Rattle.packed.proofs.Stack.{next_good}

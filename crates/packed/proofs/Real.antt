@@ -9,12 +9,10 @@ use lib.Dec.{T}
 use Rattle.base.specs.Answer.{Answer}
 use Rattle.layout.specs.declared.Layout.{Layout}
 use Rattle.layout.specs.Layout.{bad_layout}
-use Rattle.producer.specs.declared.RingProducer.{RingProducer}
 use Rattle.producer.specs.declared.Opened as made_result
 use Rattle.producer.specs.declared.Opened.TheVariants as made_opened
 use Rattle.producer.specs.Fresh as made_fresh
 use Rattle.producer.proofs.Same as made_same
-use Rattle.consumer.specs.declared.RingConsumer.{RingConsumer}
 use Rattle.consumer.specs.declared.Opened as taken_result
 use Rattle.consumer.specs.declared.Opened.TheVariants as taken_opened
 use Rattle.consumer.specs.declared.Checkpoint.{Checkpoint}
@@ -23,15 +21,15 @@ use Rattle.consumer.proofs.Same as taken_same
 use Rattle.queue.specs.History.{Event, History}
 use Rattle.queue.specs.Promise.{plain, for_handed, Each, MayFollow}
 use Rattle.queue.specs.Machine.{world_of, history_of, FairCalls, number_of, OfKind}
-use Rattle.queue.specs.Demand.{Premise, Demand3}
-use Rattle.queue.proofs.Model.{model, start, next, Ok, AllOk}
+use Rattle.queue.specs.Demand.{Premise}
+use Rattle.queue.proofs.Model.{model, start, AllOk}
 use Rattle.queue.proofs.Machine.{Matches, demanded}
 use Rattle.packed.specs.Meets.{sixth, seventh}
-use Rattle.packed.specs.Calls.{Call, Given, TypedCall, request_of}
-use Rattle.packed.specs.Machine.{World, Lendings, ProducerLeaves, ConsumerLeaves, packed, lendings, place_of, kept_of, FairCall, says_of}
+use Rattle.packed.specs.Calls.{Call, Given, request_of}
+use Rattle.packed.specs.Machine.{World, ProducerLeaves, ConsumerLeaves, packed, lendings, place_of, kept_of, FairCall, says_of}
 use Rattle.packed.specs.Machine.{after_producer, after_consumer, call_answer, call_entry, call_exit, call_says, leaves, machine_of}
 use Rattle.packed.specs.Opening.{Opening, opened_world}
-use Rattle.packed.specs.Real.{ProducerNew, ConsumerNew, producer_geometry, producer_finds, consumer_geometry, consumer_finds, RealCall, as_call}
+use Rattle.packed.specs.Real.{producer_geometry, producer_finds, consumer_finds, RealCall, as_call}
 use Rattle.packed.specs.Real.{producers, consumers, to_another_producer, to_another_consumer, opens_producer, opens_consumer}
 use Rattle.packed.specs.Real.{enters_in, real_answer, exits_in, addrs_in, lens_in, addrs_out, lens_out, FairReal, real_machine}
 use Rattle.packed.specs.Real.{RealOpening, opened_size, real_opened, RealRun, RealDemand, as_calls, calls_in, AnswersAgree, IsRun}

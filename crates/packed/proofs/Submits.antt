@@ -39,7 +39,7 @@ use Rattle.packed.specs.Calls.{asks, valid_chain, TypedChain}
 use Rattle.packed.specs.Machine.{World, submits_of, tells_of, after_producer}
 use Rattle.packed.proofs.Answers.{says_submitted, after_made, read_refused, valid_is}
 use Rattle.packed.proofs.Position.{pos, round, view, pos_add, apart}
-use Rattle.packed.proofs.Counts.{Used, of_items, slots, tot, pos_len, pos_snoc, at_set, tot_item, occ_item, slots_item, items_tot}
+use Rattle.packed.proofs.Counts.{Used, of_items, tot, pos_len, pos_snoc, at_set, tot_item, occ_item, slots_item, items_tot}
 use Rattle.packed.proofs.Spells.{Spell, Spells, spells_cong, spells_append, returns_cong, spell_flags}
 use Rattle.packed.proofs.Invariant.{FineItem, Like, Good, good_by, big, free_slots, free_in, p_size, p_sound, p_lent, like_unchanged}
 use Rattle.packed.proofs.Stack.{popped, top_low, top_count, top_unlike}

@@ -1,14 +1,14 @@
 -- Only a valid call is accepted: what was handed in is judged by the size that was opened, and each end's record still has it.
 -- Assumes nothing.
-use Prim.Native.Nat.{ℕ, ◌≤◌}
-use mathlib.Core.Path.{◌≡◌, refl, sym, ap, ◌∙◌, subst}
-use mathlib.Core.Bool.{Bool, true, false, false≢true, not, ◌&&◌, ◌||◌}
+use Prim.Native.Nat.{ℕ}
+use mathlib.Core.Path.{◌≡◌, refl, sym, ap, ◌∙◌}
+use mathlib.Core.Bool.{Bool, true, false, false≢true, not, ◌||◌}
 use mathlib.Core.List.{List}
 use native.Mathlib.Omega.{arith}
 use lib.Dec.{ltb, leb}
 use lib.ListN.{length}
 use borrow.Author.Tests.{ltb-false, le-leb, lt-leb, lt-ltb}
-use Rattle.base.specs.Answer.{Answer, refused}
+use Rattle.base.specs.Answer.{Answer}
 use Rattle.base.proofs.Tests.{split, by_lt, neither}
 use Rattle.cursor.specs.declared.RingCursor.{RingCursor}
 use Rattle.layout.specs.declared.Layout.{Layout}
@@ -36,7 +36,7 @@ use Rattle.packed.specs.Calls.{consumer_asked, turn_avail, enable_avail_desc, en
 use Rattle.packed.specs.Machine.{World, packed, own_answer, submits_of, tells_of, polls_of, rolls_of, producer_does, consumer_does}
 use Rattle.packed.proofs.Answers.{and_true, valid_is}
 use Rattle.packed.proofs.Counts.{Used}
-use Rattle.packed.proofs.Invariant.{Like, Match, p_size, p_sound, p_lent, c_size, c_sound, c_lent}
+use Rattle.packed.proofs.Invariant.{Like, p_size, p_sound, p_lent, c_size, c_sound, c_lent}
 
 module _ (l : Layout) (laid_out : bad_layout l ≡ false) where
   abbrev size : ℕ

@@ -1,6 +1,6 @@
 -- "Any mix of their calls": every call of both ends, with any arguments of their types, and whom each is given to. The names are the Rust's, but for
 -- the questions and the notifications. That no public function is left out: Real.antt has a case for each.
-use Rattle.std.specs.Prelude.{ℕ, ◌^◌, ◌<◌, ◌≡◌, List, [], ◌∷◌, Bool, true, cond, ◌&&◌, ltb, leb, eqb, length, get_or}
+use Rattle.std.specs.Prelude.{ℕ, ◌^◌, ◌<◌, List, [], ◌∷◌, Bool, true, cond, ◌&&◌, ltb, leb, eqb, length, get_or}
 use Rattle.cursor.specs.declared.RingCursor.{RingCursor}
 use Rattle.layout.specs.declared.Layout.{Layout}
 use Rattle.producer.specs.declared.RingProducer.{RingProducer}

@@ -27,7 +27,7 @@ use Rattle.queue.specs.History as said
 use Rattle.queue.specs.Machine.{Machine}
 use Rattle.queue.specs.Says.{says}
 use Rattle.packed.specs.Calls.{ProducerQuestion, ConsumerQuestion, ProducerCall, ConsumerCall, Own, Lent, Foreign, Call, Given}
-use Rattle.packed.specs.Calls.{one_of, producer_request, consumer_request, request_of}
+use Rattle.packed.specs.Calls.{one_of, request_of}
 use Rattle.packed.specs.Calls.{producer_num_free, producer_num_inflight, producer_is_full, producer_len, producer_desc_table}
 use Rattle.packed.specs.Calls.{producer_avail_cursor, producer_used_cursor}
 use Rattle.packed.specs.Calls.{consumer_num_free, consumer_num_inflight, consumer_is_full, consumer_len, consumer_avail_cursor, consumer_used_cursor}

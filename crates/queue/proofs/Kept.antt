@@ -10,7 +10,7 @@ use mathlib.Core.List.{List, [], ◌∷◌, ◌++◌, append_assoc, append-nil}
 use lib.ListN.{length, drop}
 use lib.Dec.{T, eqb, eqb→eq, eqb_refl, T_not}
 use Rattle.queue.specs.History.{Item, Done, Event, History, Poll, slots_of, slots_in, items, ids, but_last, without, without_item, of_id, times}
-use Rattle.queue.specs.History.{reclaims, standing, held, out, finished}
+use Rattle.queue.specs.History.{reclaims, standing, held, finished}
 use Rattle.queue.specs.History.{submitted, polled, completed, reclaimed, marked, rolled, unchanged}
 use Rattle.queue.specs.Promise.{Has, Unlike, Rules}
 use Rattle.queue.specs.Sentences.{All}

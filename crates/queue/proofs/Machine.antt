@@ -8,9 +8,9 @@ use mathlib.Core.List.{List, [], ◌∷◌, ◌++◌}
 use lib.Dec.{T}
 use lib.ListN.{drop}
 use Rattle.queue.specs.History.{Kind, Event, History}
-use Rattle.queue.specs.History.{submit, reclaim, next_id, poll, complete, peek, checkpoint, rollback, other, foreign, refused, unchanged}
+use Rattle.queue.specs.History.{submit, reclaim, next_id, poll, complete, peek, checkpoint, rollback, other, foreign}
 use Rattle.queue.specs.Promise.{Rules, for_handed, Each, MayFollow, Refusal, Right}
-use Rattle.queue.specs.Machine.{Machine, world_of, history_of, FairCalls, number_of, OfKind}
+use Rattle.queue.specs.Machine.{Machine, world_of, history_of, number_of, OfKind}
 use Rattle.queue.specs.Demand.{Premise, Demand3}
 use Rattle.queue.proofs.Model.{Queue, start, next, model, Ok, AllOk}
 use Rattle.queue.proofs.Trace.{rightly, all_ok_before, undoes_of}

@@ -8,16 +8,16 @@ use mathlib.Core.Bool.{Bool, true, false, false≢true}
 use mathlib.Core.List.{List, [], ◌∷◌, ◌++◌}
 use lib.Dec.{T}
 use lib.ListN.{length, drop}
-use Rattle.queue.specs.History.{Chain, Item, Done, Kind, Event, History, slots_of, slots_in, items, pubs, comps, reclaims, standing, held, out}
+use Rattle.queue.specs.History.{Chain, Item, Done, Kind, Event, History, slots_of, slots_in, items, pubs, reclaims, held, out}
 use Rattle.queue.specs.History.{finished, promised, waiting}
 use Rattle.queue.specs.History.{submit, reclaim, next_id, poll, complete, peek, checkpoint, rollback, other, foreign}
 use Rattle.queue.specs.History.{nexted, peeked, refused, submitted, polled, completed, reclaimed, unchanged}
-use Rattle.queue.specs.Promise.{Has, Unlike, Fine, HandedInvalid, Rules, plain, for_handed, Each, Refusal, Right}
+use Rattle.queue.specs.Promise.{Has, Unlike, Fine, HandedInvalid, Rules, plain, for_handed, Each, Right}
 use Rattle.queue.specs.Sentences.{At, ItsOwn}
 use Rattle.queue.specs.Machine.{Machine, history_of}
 use Rattle.queue.specs.Demand.{Demand3}
 use Rattle.queue.proofs.Model.{AllOk}
-use Rattle.queue.proofs.Trace.{allowed, all_ok_before}
+use Rattle.queue.proofs.Trace.{allowed}
 use Rattle.queue.proofs.Machine.{each_at, each_before}
 use Rattle.queue.proofs.Reader.{frees, fresh_id, slots_fit, chains_fit}
 use Rattle.queue.proofs.Handed.{handed}

@@ -1,22 +1,30 @@
 // Runs a whole input and writes the lines to standard output.
 #![tactic(auto)]
 
-ghost use Rattle.std.specs.Prelude.{◌≤◌, length};
+ghost use Rattle.std.specs.Prelude.{◌≡◌, ◌≤◌, length};
 
 use lines::output;
 use replay_step::{Run, Turn, step};
 
 const STDIN_FILENO: i32 = 0;
+
 const STDOUT_FILENO: i32 = 1;
 
 // The longest line: 4,096 addresses and lengths, of 32 bytes with their spaces, and a few numbers more.
 const LINE: usize = 131200;
 
+// N zeros. Its length is proved of every N: a proof that sees so long an array written out counts it.
+fn zeroed<const N: usize>() -> [u8; N]
+    ensures { N ≡ length result }
+{
+    [0; N]
+}
+
 // Reads traces on standard input and writes what the port answers. Every slice has the length that the format names.
 pub fn run_input() {
-    let mut input = [0u8; 262144];
-    let mut out = [0u8; 262144];
-    let mut region = [0u8; 65536];
+    let mut input = zeroed::<262144>();
+    let mut out = zeroed::<262144>();
+    let mut region = zeroed::<65536>();
     let mut ids = [0u16; 2048];
     let mut taken = [0u16; 2048];
     let mut held = [0u16; 2048];

@@ -8,7 +8,7 @@ use Rattle.io.specs.Digits.{last_digits, IsDigitCount}
 use lib.ListN.{replicate}
 use Rattle.text.specs.Text.{words, digits_of, decimal_of, right_of, hex_of, written, puts}
 use Rattle.text.proofs.Decimal.{fewest_digits, at_most_20}
-use Rattle.text.proofs.Texts.{as_wide, hex_digits}
+use Rattle.text.proofs.Texts.{hex_digits}
 use Rattle.text.proofs.Room.{room, right_short, texts_fit}
 
 -- 207 has three digits, and no fewer hold it

@@ -1,4 +1,3 @@
 pub mod Laws
 pub mod Shows
-pub mod Contracts
 pub mod Fixed

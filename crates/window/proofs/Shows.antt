@@ -32,7 +32,7 @@ use Rattle.desc.specs.contracts.load as loads
 use Rattle.desc.proofs.load.Reads as load
 use Rattle.desc.specs.contracts.Descriptor.decode as decodes
 use Rattle.desc.proofs.Descriptor.decode.Reads as decode
-use Rattle.window.proofs.Contracts.{SlotPost}
+use Rattle.window.proofs.Window.slot.Reads as slot_reads
 use Rattle.window.specs.contracts.Window.slot as slot
 use Rattle.window.specs.contracts.slot_at as at
 use Rattle.window.proofs.slot_at.Reads as slot_at
@@ -96,7 +96,7 @@ by_contract κ ring table size i h w x sx px b sb pb d sd pd =
 -- and whatever `Window::slot` may answer of a window
 pub slot_by_contract :
     (κ : Lfts 1) (v : Window) (i : ℕ) → i < v.size → i * 16 + 16 ≤ length v.table.now
-    → (x : Slot) (sx : AtExit slot.ended κ) → SlotPost κ (v, (i, tt)) x sx
+    → (x : Slot) (sx : AtExit slot.ended κ) → slot_reads.Post κ (v, (i, tt)) x sx
     → (b : List ℕ) (sb : AtExit loads.ended κ) → load.Post κ (v.table, (i * 16, tt)) b sb
     → (d : Descriptor) (sd : AtExit decodes.ended tt) → decode.Post tt (b, tt) d sd
     → x ≡ Holds d
@@ -168,10 +168,10 @@ answered x sx px =
     (get_of zeros (16 + 1 * 16) 16) (lent, (16 + 1 * 16, tt)) refl
     zero (get_of zeros (16 + 1 * 16) 16, tt) refl
 
-allowed_slot : SlotPost κ (window lent 2, (1, tt)) (Holds first) (window lent 2, (1, tt))
+allowed_slot : slot_reads.Post κ (window lent 2, (1, tt)) (Holds first) (window lent 2, (1, tt))
 allowed_slot = sym (shown zeros 2 1 (omega arith) first_whole)
 
-answered_slot : (x : Slot) (sx : AtExit slot.ended κ) → SlotPost κ (window lent 2, (1, tt)) x sx → x ≡ Holds first
+answered_slot : (x : Slot) (sx : AtExit slot.ended κ) → slot_reads.Post κ (window lent 2, (1, tt)) x sx → x ≡ Holds first
 answered_slot x sx px =
     slot_by_contract κ (window lent 2) 1 (omega arith) first_whole x sx px
     (get_of zeros (1 * 16) 16) (lent, (1 * 16, tt)) refl

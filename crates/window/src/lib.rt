@@ -22,7 +22,7 @@ pub enum Slot {
     Nothing,
 }
 
-// The work, on a plain slice: a function over a Window is proved by a walk of its code, so every branch stands here.
+// The work, on a plain slice: the functions over a Window are thin.
 fn decoded(table: &[u8], size: u16, i: u16) -> Slot
     ensures { answer_of result ≡ shown_of table.now size i }
 {
@@ -51,7 +51,7 @@ impl<'a> Window<'a> {
     }
 }
 
-// For every caller that keeps no window: its parameters are a plain slice and numbers, so a caller of it needs no walk.
+// For every caller that keeps no window: its parameters are a plain slice and numbers.
 pub fn slot_of(table: &[u8], size: u16, i: u16) -> Slot
     ensures { answer_of result ≡ shown_of table.now size i }
 {

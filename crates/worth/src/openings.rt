@@ -1,5 +1,7 @@
 // The edges of a ring's size. What is lent has room for 32,769 slots, so that the size alone can be refused. A ring that opens is
 // asked for its size and no more: programs run rings of at most 2,048 slots.
+ghost use Rattle.std.specs.Prelude.{◌≡◌, length};
+
 use consumer::RingConsumer;
 use producer::RingProducer;
 
@@ -9,9 +11,16 @@ pub fn sizes() {
     opened(32769);
 }
 
+// N zeros. Its length is proved of every N: a proof that sees so long an array written out counts it.
+fn zeroed<const N: usize>() -> [u8; N]
+    ensures { N ≡ length result }
+{
+    [0; N]
+}
+
 // Both ends: the table at 0, and behind it the driver's event area and the device's.
 fn opened(size: u16) {
-    let ring = [0u8; 524312];
+    let ring = zeroed::<524312>();
     let mut ids = [0u16; 32769];
     let mut counts = [0u16; 32769];
     producer_at(size, &ring, &mut ids, &mut counts);

@@ -3,8 +3,8 @@
 -- Assumes nothing.
 use Prim.Native.Nat.{ℕ, ◌+◌, ◌-◌}
 use mathlib.Core.Path.{◌≡◌, refl, sym, ap, subst}
-use mathlib.Core.Logic.{inl, inr, ⊎_elim}
-use mathlib.Core.Bool.{Bool, true, false, false≢true}
+use mathlib.Core.Logic.{⊎_elim}
+use mathlib.Core.Bool.{true, false, false≢true}
 use mathlib.Core.List.{List, [], ◌∷◌}
 use native.Mathlib.Omega.{arith}
 use lib.ListN.{length, get_or, take}
@@ -15,7 +15,7 @@ use Rattle.queue.specs.History.{Item, Done, Event, History, slots_in, pubs, poll
 use Rattle.queue.specs.History as said
 use Rattle.queue.specs.Promise.{plain, UndoesIntact, Each, MayFollow, Right}
 use Rattle.queue.specs.Machine.{history_of}
-use Rattle.packed.specs.Calls.{ConsumerCall, Given, poll_available, submit_used, submit_used_with_notify, peek_available, poll_checkpoint, rollback_polls}
+use Rattle.packed.specs.Calls.{ConsumerCall, poll_available, submit_used, submit_used_with_notify, peek_available, poll_checkpoint, rollback_polls}
 use Rattle.packed.specs.Calls.{consumer_asked, turn_avail, enable_avail_desc, enable_avail_for_next, consumer_reset}
 use Rattle.packed.specs.Machine.{Ring, ConsumerSide, ConsumerLeaves, packed, machine_of}
 use Rattle.packed.specs.Opening.{Opening, opened_world, Demand}

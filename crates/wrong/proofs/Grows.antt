@@ -1,11 +1,11 @@
 -- A ring that makes its own record a slot larger at the first poll, so that outputs of ring-size entries then get 8: "7 and 8 only for what was handed
 -- in" is broken, since what was handed in is judged by the size that was opened.
 -- Assumes nothing.
-use Prim.Native.Nat.{ℕ, ◌+◌}
+use Prim.Native.Nat.{◌+◌}
 use mathlib.Core.Path.{◌≡◌, refl, sym}
 use mathlib.Core.Logic.{inr, ⊎_elim}
 use mathlib.Core.Bool.{true, false≢true}
-use mathlib.Core.List.{List, [], ◌∷◌}
+use mathlib.Core.List.{[], ◌∷◌}
 use native.Mathlib.Omega.{arith}
 use lib.ListN.{get_or-replicate}
 use Rattle.layout.specs.Layout.{layout, apart, bad_layout, outside}

@@ -1,19 +1,18 @@
 -- A machine that says 'quiet' to every call: each of its answers is right, since it says nothing; "every call gets an answer of its own kind" is broken.
 -- Assumes nothing.
 use Prim.Native.Nat.{ℕ}
-use mathlib.Core.Path.{◌≡◌, refl, ap}
+use mathlib.Core.Path.{◌≡◌, refl}
 use mathlib.Core.List.{List, [], ◌∷◌}
 use native.Mathlib.Omega.{arith}
 use Rattle.consumer.specs.declared.Checkpoint.{Checkpoint}
 use Rattle.queue.specs.History.{History, Kind}
 use Rattle.queue.specs.History as said
-use Rattle.queue.specs.Promise.{Rules, Each, MayFollow, Right}
+use Rattle.queue.specs.Promise.{Rules, Each, Right}
 use Rattle.queue.specs.Machine.{Machine, history_of}
 use Rattle.queue.specs.Demand.{Premise, Demand3}
 use Rattle.packed.specs.Calls.{Given}
-use Rattle.packed.specs.Machine.{Ring, World, packed, machine_of}
+use Rattle.packed.specs.Machine.{World, packed, machine_of}
 use Rattle.packed.specs.Opening.{Opening, opened_world, rules}
-use Rattle.history.proofs.Ends.{two_accepted, over_zeros}
 use Rattle.wrong.proofs.Calls.{poll, real_two}
 
 -- THE WRONG MACHINE: the packed ring, but every event is 'quiet'

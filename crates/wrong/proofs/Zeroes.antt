@@ -18,7 +18,7 @@ use Rattle.queue.specs.History.{Item, Event, History, pubs, standing, out, promi
 use Rattle.queue.specs.History as said
 use Rattle.queue.specs.Promise.{plain, Each, MayFollow, Right}
 use Rattle.queue.specs.Machine.{history_of, FairCalls}
-use Rattle.packed.specs.Calls.{Foreign, Given, poll_used, its, another, to_producer}
+use Rattle.packed.specs.Calls.{Given, poll_used, its, another, to_producer}
 use Rattle.packed.specs.Machine.{Lendings, Ring, packed, machine_of}
 use Rattle.packed.specs.Opening.{Opening, opened_world, Demand}
 use Rattle.history.proofs.Ends.{two_accepted, over_zeros, nothing_asked, strays, item}

@@ -1,6 +1,5 @@
 -- `chain::check` meets its contract: each exit by the test that led to it.
 -- Assumes nothing.
-use borrow.Author.Rules.{rules}
 use mathlib.Core.Path.{sym, ◌∙◌}
 use lib.ListN.{length}
 use Rattle.chain.proofs.Laws.{check_refused, check_done}

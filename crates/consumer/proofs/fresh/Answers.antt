@@ -1,6 +1,5 @@
 -- `consumer::fresh` meets its contract: field by field.
 -- Assumes nothing.
-use borrow.Author.Rules.{rules}
 use Rattle.consumer.specs.Fresh.{fresh_of}
 use Rattle.consumer.proofs.fresh.Goals as goal
 

@@ -1,6 +1,5 @@
 -- `consumer::stale` meets its contract: the tests are the definition's; the checkpoint's cursor moves, as it may.
 -- Assumes nothing.
-use borrow.Author.Rules.{rules}
 use mathlib.Core.Path.{◌≡◌, ap, ◌∙◌}
 use Rattle.cursor.specs.Cursor.{steps, Outcome}
 use Rattle.cursor.proofs.Ready.{ready, advance_ready}

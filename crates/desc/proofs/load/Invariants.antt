@@ -1,15 +1,9 @@
 -- `desc::load` meets its contract. The loop's invariant: the first k bytes of the slot are in b.
 -- Assumes nothing.
-use borrow.Author.Rules.{rules}
-use native.Mathlib.Omega.{arith}
-use Prim.Native.Nat.{ℕ, ◌+◌, ◌-◌, ◌≤◌}
-use native.Mathlib.Nat.{zero-add}
-use mathlib.Core.Path.{◌≡◌, refl, sym, ap, ap₂, ◌∙◌}
-use mathlib.Core.List.{List}
-use borrow.Author.Tests.{leb-true, leb-false}
-use lib.ListN.{length, take, drop, set, get_or, replicate}
-use lib.Seq.{sets, take_all}
-use Rattle.base.proofs.Runs.{sets_more, sets_whole, part_length, part_at, get_fits, get_short}
+use Prim.Native.Nat.{◌-◌, ◌≤◌}
+use mathlib.Core.Path.{◌≡◌}
+use lib.ListN.{take, drop, replicate}
+use lib.Seq.{sets}
 use Rattle.desc.proofs.load.Given as goal
 
 abbrev pub invariant-loop-k : goal.invariant-loop-k

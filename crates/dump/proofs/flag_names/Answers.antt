@@ -1,6 +1,5 @@
 -- `dump::flag_names` meets its contract: the tests are the definition's own.
 -- Assumes nothing.
-use borrow.Author.Rules.{rules}
 use mathlib.Core.Path.{refl}
 use Rattle.dump.specs.Names.{names_of}
 use Rattle.dump.proofs.flag_names.Goals as goal

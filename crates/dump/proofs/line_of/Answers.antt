@@ -1,7 +1,6 @@
 -- `dump::line_of` meets its contract: each exit by what the header says.
 -- Assumes nothing.
-use borrow.Author.Rules.{rules}
-use mathlib.Core.Path.{◌≡◌, sym, ap, ap₂, ◌∙◌}
+use mathlib.Core.Path.{sym, ap, ◌∙◌}
 use Rattle.text.specs.Text.{words, written, puts}
 use Rattle.dump.specs.declared.Header.{Header}
 use Rattle.dump.specs.Lines.{line_by}

@@ -1,6 +1,5 @@
 -- `dump::read_header` meets its contract: each exit by the tests that led to it.
 -- Assumes nothing.
-use borrow.Author.Rules.{rules}
 use native.Mathlib.Omega.{arith}
 use Prim.Native.Nat.{ℕ}
 use mathlib.Core.Path.{◌≡◌, sym, ap, ap₂, ◌∙◌}

@@ -1,6 +1,6 @@
 -- `exchanged::run` is safe and ends: the place of one of 170 records is no large number, and the slices keep their lengths.
 -- Assumes nothing.
-use Rattle.std.proofs.Common.{◌≡◌, ◌-◌, ◌≤◌, length, rules}
+use Rattle.std.proofs.Common.{◌≡◌, ◌-◌, ◌≤◌, length}
 use Rattle.exchanged.proofs.run.Given as goal
 
 abbrev pub invariant-loop-i : goal.invariant-loop-i

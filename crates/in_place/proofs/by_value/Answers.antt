@@ -1,6 +1,5 @@
 -- `in_place::by_value` meets its contract: by the case of the move's answer.
 -- Assumes nothing.
-use borrow.Author.Rules.{rules}
 use Prim.Native.Nat.{ℕ}
 use mathlib.Core.Path.{sym, ap, ◌∙◌}
 use Rattle.base.specs.Refusals.{number_of}

@@ -1,6 +1,5 @@
 -- `layout::are_apart` meets its contract: the two comparisons are the definition's.
 -- Assumes nothing.
-use borrow.Author.Rules.{rules}
 use mathlib.Core.Path.{ap₂}
 use mathlib.Core.Bool.{◌||◌}
 use Rattle.layout.specs.Layout.{apart}

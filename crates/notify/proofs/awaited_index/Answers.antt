@@ -1,6 +1,6 @@
 -- `notify::awaited_index` meets its contract: the choice is the definition's.
 -- Assumes nothing.
-use Rattle.std.proofs.Common.{◌≡◌, ℕ, cond, ap, ◌∙◌, rules}
+use Rattle.std.proofs.Common.{◌≡◌, ℕ, cond, ap, ◌∙◌}
 use mathlib.Core.Bool.{beq}
 use Rattle.notify.specs.Notify.{sub16, awaited}
 use Rattle.notify.proofs.awaited_index.Goals as goal

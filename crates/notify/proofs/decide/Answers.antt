@@ -1,6 +1,6 @@
 -- `notify::decide` meets its contract: each exit by the tests that led to it.
 -- Assumes nothing.
-use Rattle.std.proofs.Common.{ℕ, not, ◌||◌, eqb, leb, sym, ap, ◌∙◌, ap₂, rules, ne_eqb}
+use Rattle.std.proofs.Common.{ℕ, not, ◌||◌, eqb, leb, sym, ap, ◌∙◌, ap₂, ne_eqb}
 use Rattle.event.specs.Event.{ENABLE, DISABLE, DESC, flags_of}
 use Rattle.notify.specs.Notify.{need_event, notify_of}
 use Rattle.notify.proofs.Laws.{notify_off, notify_on}

@@ -1,6 +1,6 @@
 -- `notify::minus` meets its contract: the number that wraps back is the remainder.
 -- Assumes nothing.
-use Rattle.std.proofs.Common.{arith, rules}
+use Rattle.std.proofs.Common.{arith}
 use Rattle.notify.specs.Notify.{sub16}
 use Rattle.notify.proofs.minus.Goals as goal
 

@@ -1,6 +1,6 @@
 -- `notify::ring_need_event` meets its contract: the comparison is the definition's.
 -- Assumes nothing.
-use Rattle.std.proofs.Common.{ℕ, ltb, ap, ◌∙◌, ap₂, rules}
+use Rattle.std.proofs.Common.{ℕ, ltb, ap, ◌∙◌, ap₂}
 use Rattle.notify.specs.Notify.{sub16, need_event}
 use Rattle.notify.proofs.ring_need_event.Goals as goal
 

@@ -1,6 +1,6 @@
 -- `notify::should_notify` meets its contract: each exit by the test that led to it.
 -- Assumes nothing.
-use Rattle.std.proofs.Common.{Bool, [], ◌∷◌, sym, ap, ◌∙◌, rules}
+use Rattle.std.proofs.Common.{Bool, [], ◌∷◌, sym, ap, ◌∙◌}
 use Rattle.base.specs.Answer.{done, bit}
 use Rattle.notify.proofs.Laws.{asked_bad, asked_good}
 use Rattle.notify.proofs.should_notify.Goals as goal

@@ -1,6 +1,5 @@
 -- `producer::fresh` meets its contract: field by field.
 -- Assumes nothing.
-use borrow.Author.Rules.{rules}
 use Rattle.producer.specs.Fresh.{fresh_of}
 use Rattle.producer.proofs.fresh.Goals as goal
 

@@ -1,6 +1,5 @@
 -- `producer::told` meets its contract: by the case of the submission's answer.
 -- Assumes nothing.
-use borrow.Author.Rules.{rules}
 use mathlib.Core.Path.{sym, ap, ◌∙◌}
 use mathlib.Core.List.{[], ◌∷◌}
 use Rattle.base.specs.Answer.{Answer, done, bit}

@@ -1,6 +1,5 @@
 -- `ring::arm` meets its contract: what was read, armed and set to DESC, is written.
 -- Assumes nothing.
-use borrow.Author.Rules.{rules}
 use mathlib.Core.Path.{ap, ◌∙◌}
 use Rattle.base.specs.Answer.{Outcome}
 use Rattle.base.specs.Bytes.{put_of}

@@ -1,6 +1,5 @@
 -- `ring::look` meets its contract: the slot at the place, which is outside the bytes where it was cut.
 -- Assumes nothing.
-use borrow.Author.Rules.{rules}
 use native.Mathlib.Omega.{arith}
 use Prim.Native.Nat.{ℕ, ◌+◌, ◌*◌}
 use mathlib.Core.Path.{ap, ◌∙◌}

@@ -1,6 +1,5 @@
 -- `ring::should_notify_evt` meets its contract: the decision on what is read.
 -- Assumes nothing.
-use borrow.Author.Rules.{rules}
 use mathlib.Core.Path.{ap, ◌∙◌}
 use Rattle.event.specs.declared.EventSuppression.{EventSuppression}
 use Rattle.notify.specs.Notify.{notify_of}

@@ -1,6 +1,5 @@
 -- `ring::turn` meets its contract: nothing, where the shadow says so; else what was read, its flags set, is written.
 -- Assumes nothing.
-use borrow.Author.Rules.{rules}
 use mathlib.Core.Path.{sym, ap, ◌∙◌}
 use Rattle.base.specs.Answer.{Outcome}
 use Rattle.base.specs.Bytes.{put_of}

@@ -1,6 +1,6 @@
 -- `say::are_records` is safe and ends: it goes through the bytes once.
 -- Assumes nothing.
-use Rattle.std.proofs.Common.{◌≡◌, ◌-◌, ◌≤◌, length, rules}
+use Rattle.std.proofs.Common.{◌≡◌, ◌-◌, ◌≤◌, length}
 use Rattle.say.proofs.are_records.Given as goal
 
 abbrev pub invariant-loop-i : goal.invariant-loop-i

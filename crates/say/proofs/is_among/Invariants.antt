@@ -1,6 +1,6 @@
 -- `say::is_among` is safe and ends: it goes through the letters once.
 -- Assumes nothing.
-use Rattle.std.proofs.Common.{◌≡◌, ◌-◌, ◌≤◌, length, rules}
+use Rattle.std.proofs.Common.{◌≡◌, ◌-◌, ◌≤◌, length}
 use Rattle.say.proofs.is_among.Given as goal
 
 abbrev pub invariant-loop-k : goal.invariant-loop-k

@@ -1,11 +1,8 @@
 -- `slots::show` is safe and ends: one line after the other, each whole in the buffer.
 -- Assumes nothing.
-use borrow.Author.Rules.{rules}
 use Prim.Native.Nat.{◌≤◌, ◌-◌}
-use native.Mathlib.Omega.{arith}
 use mathlib.Core.Path.{◌≡◌}
-use lib.ListN.{length, length-take}
-use Rattle.dump.proofs.Short.{line_told}
+use lib.ListN.{length}
 use Rattle.slots.proofs.show.Given as goal
 
 abbrev pub invariant-loop-k : goal.invariant-loop-k

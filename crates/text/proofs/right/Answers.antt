@@ -1,12 +1,10 @@
 -- `text::right` meets its contract: blanks, and the digits that `io::decimal` gives.
 -- Assumes nothing.
 use borrow.Author.Rules.{rules}
-use native.Mathlib.Omega.{arith}
-use Prim.Native.Nat.{ℕ, ◌-◌}
-use mathlib.Core.Path.{◌≡◌, sym, ap, ap₂, ◌∙◌}
-use mathlib.Core.List.{List}
-use lib.ListN.{length, take}
-use Rattle.text.specs.Text.{decimal_of, blanks_of, Written, written, put_text}
+use Prim.Native.Nat.{ℕ}
+use mathlib.Core.Path.{ap, ◌∙◌}
+use lib.ListN.{take}
+use Rattle.text.specs.Text.{blanks_of, written, put_text}
 use Rattle.text.proofs.Decimal.{at_most_20}
 use Rattle.text.proofs.Texts.{right_put}
 use Rattle.text.proofs.right.Goals as goal

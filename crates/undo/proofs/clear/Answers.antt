@@ -1,6 +1,6 @@
 -- `undo::clear` meets its contract. The loop's invariant: finishing from here gives the whole.
 -- Assumes nothing.
-use Rattle.std.proofs.Common.{◌≡◌, ℕ, ◌+◌, ◌-◌, ◌≤◌, List, length, drop, set, sym, refl, ap, ◌∙◌, arith, rules}
+use Rattle.std.proofs.Common.{ℕ, ◌+◌, List, drop, set, sym, ap, ◌∙◌, arith}
 use Rattle.undo.specs.Undo.{cleared_of}
 use Rattle.undo.proofs.Laws.{cleared_more, cleared_all}
 use Rattle.undo.proofs.clear.Goals as goal

@@ -1,8 +1,7 @@
 -- `undo::clear` meets its contract. The loop's invariant: finishing from here gives the whole.
 -- Assumes nothing.
-use Rattle.std.proofs.Common.{◌≡◌, ℕ, ◌+◌, ◌-◌, ◌≤◌, List, length, drop, set, sym, refl, ap, ◌∙◌, arith, rules}
+use Rattle.std.proofs.Common.{◌≡◌, ◌-◌, ◌≤◌, length, drop}
 use Rattle.undo.specs.Undo.{cleared_of}
-use Rattle.undo.proofs.Laws.{cleared_more, cleared_all}
 use Rattle.undo.proofs.clear.Given as goal
 
 abbrev pub invariant-loop-k : goal.invariant-loop-k

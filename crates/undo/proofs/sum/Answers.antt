@@ -1,8 +1,7 @@
 -- `undo::sum` meets its contract: 7, then 8, then what the walk answers.
 -- Assumes nothing.
-use Rattle.std.proofs.Common.{ltb, sym, ap, rules, ltb-false}
+use Rattle.std.proofs.Common.{sym, ap}
 use Rattle.base.specs.Answer.{Answer}
-use Rattle.base.proofs.Tests.{neither}
 use Rattle.undo.specs.Undo.{outcome}
 use Rattle.undo.proofs.Laws.{sum_bad_record, sum_bad_lent}
 use Rattle.undo.proofs.sum.Goals as goal

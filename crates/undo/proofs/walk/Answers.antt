@@ -2,10 +2,9 @@
 -- gives the table at entry, which is the second loop's.
 -- Its measure is what is left: no list costs more turns than `most`.
 -- Assumes nothing.
-use Rattle.std.proofs.Common.{◌≡◌, ℕ, ◌+◌, ◌-◌, ◌≤◌, List, length, get_or, drop, sym, refl, ap, ◌∙◌, ap₂, arith, rules}
-use Rattle.base.specs.Answer.{Answer}
+use Rattle.std.proofs.Common.{ℕ, ◌+◌, ◌-◌, List, get_or, drop, sym, refl, ap, ◌∙◌, ap₂, arith}
 use mathlib.Core.Bool.{not}
-use Rattle.undo.specs.Undo.{outcome, sum_of}
+use Rattle.undo.specs.Undo.{outcome}
 use Rattle.undo.proofs.Marks.{flip, unmarked, unmark_marked, unmark_more, unmark_none, walked, goes, walk_more, walk_stopped, walk_through}
 use Rattle.undo.proofs.Laws.{sum_walked}
 use Rattle.undo.proofs.walk.Goals as goal

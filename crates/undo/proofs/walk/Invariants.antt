@@ -2,11 +2,8 @@
 -- gives the table at entry, which is the second loop's.
 -- Its measure is what is left: no list costs more turns than `most`.
 -- Assumes nothing.
-use Rattle.std.proofs.Common.{◌≡◌, ℕ, ◌+◌, ◌-◌, ◌≤◌, List, length, get_or, drop, sym, refl, ap, ◌∙◌, ap₂, arith, rules}
-use Rattle.base.specs.Answer.{Answer}
-use Rattle.undo.specs.Undo.{outcome, sum_of}
-use Rattle.undo.proofs.Marks.{flip, unmarked, unmark_marked, unmark_more, unmark_none, walked, goes, walk_more, walk_stopped, walk_through}
-use Rattle.undo.proofs.Laws.{sum_walked}
+use Rattle.std.proofs.Common.{◌≡◌, ◌≤◌, length, drop}
+use Rattle.undo.proofs.Marks.{unmarked, walked}
 use Rattle.undo.proofs.walk.Given as goal
 
 abbrev pub invariant-loop-id : goal.invariant-loop-id

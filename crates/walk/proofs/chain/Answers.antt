@@ -1,10 +1,8 @@
 -- `walk::chain` meets its contract: finishing the walk from here gives the whole.
 -- Assumes nothing.
-use borrow.Author.Rules.{rules}
 use native.Mathlib.Omega.{arith}
-use Prim.Native.Nat.{◌+◌, ◌-◌, ◌≤◌}
-use mathlib.Core.Path.{◌≡◌, refl, sym, ap, ◌∙◌}
-use borrow.Author.Tests.{not-true, not-false}
+use Prim.Native.Nat.{◌-◌}
+use mathlib.Core.Path.{◌≡◌, sym, ap, ◌∙◌}
 use Rattle.ring.specs.Slots.{slot_of}
 use Rattle.walk.specs.Walk.{look_of, walk_of}
 use Rattle.walk.proofs.Laws.{walk_more, walk_done, walk_none, look_count, look_readable}

@@ -1,13 +1,8 @@
 -- `walk::chain` meets its contract: finishing the walk from here gives the whole.
 -- Assumes nothing.
-use borrow.Author.Rules.{rules}
-use native.Mathlib.Omega.{arith}
-use Prim.Native.Nat.{◌+◌, ◌-◌, ◌≤◌}
-use mathlib.Core.Path.{◌≡◌, refl, sym, ap, ◌∙◌}
-use borrow.Author.Tests.{not-true, not-false}
-use Rattle.ring.specs.Slots.{slot_of}
-use Rattle.walk.specs.Walk.{look_of, walk_of}
-use Rattle.walk.proofs.Laws.{walk_more, walk_done, walk_none, look_count, look_readable}
+use Prim.Native.Nat.{◌+◌, ◌≤◌}
+use mathlib.Core.Path.{◌≡◌}
+use Rattle.walk.specs.Walk.{walk_of}
 use Rattle.walk.proofs.chain.Given as goal
 
 abbrev pub invariant-loop-left : goal.invariant-loop-left

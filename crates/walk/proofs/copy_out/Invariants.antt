@@ -1,17 +1,11 @@
 -- `walk::copy_out` meets its contract: finishing the copy from here gives the whole.
 -- Assumes nothing.
-use borrow.Author.Rules.{rules}
-use native.Mathlib.Omega.{arith}
-use native.Mathlib.Nat.{sub-zero}
-use Prim.Native.Nat.{ℕ, ◌+◌, ◌-◌}
-use mathlib.Core.Path.{◌≡◌, refl, sym, ap, ap₂, ◌∙◌}
-use mathlib.Core.List.{List, map}
-use lib.ListN.{length, set}
+use Prim.Native.Nat.{◌-◌}
+use mathlib.Core.Path.{◌≡◌}
+use mathlib.Core.List.{map}
+use lib.ListN.{length}
 use lib.Seq.{sets}
-use Rattle.cursor.specs.declared.RingCursor.{RingCursor}
-use Rattle.desc.specs.declared.Descriptor.{Descriptor}
 use Rattle.walk.specs.Walk.{slots_from, addr_of, len_of}
-use Rattle.walk.proofs.Laws.{copy_more, copy_none}
 use Rattle.walk.proofs.copy_out.Given as goal
 
 abbrev pub invariant-loop-i : goal.invariant-loop-i

@@ -1,12 +1,9 @@
 -- `walk::look` meets its contract: field by field.
 -- Assumes nothing.
-use borrow.Author.Rules.{rules}
-use native.Mathlib.Omega.{arith}
 use Prim.Native.Nat.{◌+◌}
 use mathlib.Core.Path.{ap, ◌∙◌}
 use mathlib.Core.Bool.{Bool, cond, not, ◌&&◌, ◌||◌}
 use Rattle.walk.specs.Walk.{look_of}
-use Rattle.walk.proofs.Laws.{one_or_none}
 use Rattle.walk.proofs.look.Goals as goal
 
 pub returns : goal.returns

@@ -1,11 +1,10 @@
 -- `base::bytes::clear` meets its contract. The loop's invariant: the first k zeros are stored.
 -- Assumes nothing.
-use Prim.Native.Nat.{ℕ, ◌+◌, ◌-◌, ◌≤◌}
-use mathlib.Core.Path.{◌≡◌, refl, sym, ap, ap₂, ◌∙◌}
+use Prim.Native.Nat.{ℕ, ◌+◌}
+use mathlib.Core.Path.{sym, ap₂, ◌∙◌}
 use mathlib.Core.List.{List}
 use native.Mathlib.Omega.{arith}
-use lib.ListN.{length, take, set, replicate, length-replicate, get_or-replicate}
-use lib.Seq.{sets, length-sets, take_all}
+use lib.ListN.{set, replicate, length-replicate, get_or-replicate}
 use Rattle.base.proofs.Runs.{sets_more}
 use Rattle.base.proofs.bytes.clear.Goals as goal
 

@@ -1,12 +1,9 @@
 -- `base::bytes::clear` meets its contract. The loop's invariant: the first k zeros are stored.
 -- Assumes nothing.
-use Prim.Native.Nat.{ℕ, ◌+◌, ◌-◌, ◌≤◌}
-use mathlib.Core.Path.{◌≡◌, refl, sym, ap, ap₂, ◌∙◌}
-use mathlib.Core.List.{List}
-use native.Mathlib.Omega.{arith}
-use lib.ListN.{length, take, set, replicate, length-replicate, get_or-replicate}
-use lib.Seq.{sets, length-sets, take_all}
-use Rattle.base.proofs.Runs.{sets_more}
+use Prim.Native.Nat.{◌-◌, ◌≤◌}
+use mathlib.Core.Path.{◌≡◌}
+use lib.ListN.{take, replicate}
+use lib.Seq.{sets}
 use Rattle.base.proofs.bytes.clear.Given as goal
 
 abbrev pub invariant-loop-k : goal.invariant-loop-k

@@ -1,11 +1,10 @@
 -- `base::bytes::copy` meets its contract. The loop's invariant: the first k bytes of b are stored.
 -- Assumes nothing.
-use Prim.Native.Nat.{ℕ, ◌+◌, ◌-◌, ◌≤◌}
-use mathlib.Core.Path.{◌≡◌, refl, ap, ◌∙◌}
+use Prim.Native.Nat.{ℕ, ◌+◌}
+use mathlib.Core.Path.{ap, ◌∙◌}
 use mathlib.Core.List.{List}
 use native.Mathlib.Omega.{arith}
-use lib.ListN.{length, take, set, get_or}
-use lib.Seq.{sets, length-sets, take_all}
+use lib.ListN.{set, get_or}
 use Rattle.base.proofs.Runs.{sets_more}
 use Rattle.base.proofs.bytes.copy.Goals as goal
 

@@ -1,12 +1,9 @@
 -- `base::bytes::copy` meets its contract. The loop's invariant: the first k bytes of b are stored.
 -- Assumes nothing.
-use Prim.Native.Nat.{ℕ, ◌+◌, ◌-◌, ◌≤◌}
-use mathlib.Core.Path.{◌≡◌, refl, ap, ◌∙◌}
-use mathlib.Core.List.{List}
-use native.Mathlib.Omega.{arith}
-use lib.ListN.{length, take, set, get_or}
-use lib.Seq.{sets, length-sets, take_all}
-use Rattle.base.proofs.Runs.{sets_more}
+use Prim.Native.Nat.{◌-◌, ◌≤◌}
+use mathlib.Core.Path.{◌≡◌}
+use lib.ListN.{length, take}
+use lib.Seq.{sets}
 use Rattle.base.proofs.bytes.copy.Given as goal
 
 abbrev pub invariant-loop-k : goal.invariant-loop-k

@@ -1,6 +1,5 @@
 -- `base::bytes::put` meets its contract: the test is the definition's, and `copy` says what it wrote.
 -- Assumes nothing.
-use borrow.Author.Rules.{rules}
 use Prim.Native.Nat.{◌+◌, ◌≤◌, ◌<◌}
 use mathlib.Core.Path.{sym, ap, ◌∙◌}
 use mathlib.Core.List.{[]}
@@ -9,13 +8,23 @@ use lib.ListN.{length}
 use Rattle.base.specs.Answer.{outcome, done}
 use Rattle.base.proofs.Runs.{put_fits, put_short}
 use Rattle.base.proofs.bytes.put.Goals as goal
+use Rattle.base.proofs.bytes.put.Goals.{Else-ends_by, Then-ends_by}
+
+-- the test that was taken, and the one that was left
+fits : (c : Then-ends_by) → let a = c.args in a.at + length a.b.now ≤ length a.ring.now
+fits c =
+    let a = c.args in leb-true (a.at + length a.b.now) (length a.ring.now) (sym c.ends_by.ensures ∙ c.if-ends_by.true)
+
+short : (c : Else-ends_by) → let a = c.args in length a.ring.now < a.at + length a.b.now
+short c =
+    let a = c.args in leb-false (a.at + length a.b.now) (length a.ring.now) (sym c.ends_by.ensures ∙ c.if-ends_by.false)
 
 pub returns-then-ends_by : goal.returns-then-ends_by
 returns-then-ends_by c =
     let a = c.args in
-    ap (outcome (done [])) c.copy.ensures ∙ sym (put_fits a.ring.now a.at a.b.now ((let fits : let a = c.args in a.at + length a.b.now ≤ length a.ring.now = let a = c.args in leb-true (a.at + length a.b.now) (length a.ring.now) (sym c.ends_by.ensures ∙ c.if-ends_by.true) in fits)))
+    ap (outcome (done [])) c.copy.ensures ∙ sym (put_fits a.ring.now a.at a.b.now (fits (goal.at.returns-then-ends_by c).Then-ends_by))
 
 pub returns : goal.returns
 returns c =
     let a = c.args in
-    sym (put_short a.ring.now a.at a.b.now ((let short : let a = c.args in length a.ring.now < a.at + length a.b.now = let a = c.args in leb-false (a.at + length a.b.now) (length a.ring.now) (sym c.ends_by.ensures ∙ c.if-ends_by.false) in short)))
+    sym (put_short a.ring.now a.at a.b.now (short (goal.at.returns c).Else-ends_by))

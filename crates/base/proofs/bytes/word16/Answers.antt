@@ -2,7 +2,6 @@
 -- Assumes nothing.
 use native.Mathlib.Omega.{arith}
 use Rattle.base.specs.Bytes.{word_at}
-use borrow.Author.Rules.{rules}
 use Rattle.base.proofs.bytes.word16.Goals as goal
 
 pub returns : goal.returns

@@ -1,8 +1,5 @@
 -- `chain::addrs::readables` meets its contract: each exit by the test that led to it.
 -- Assumes nothing.
-use borrow.Author.Rules.{rules}
-use mathlib.Core.Path.{sym}
-use lib.Seq.{length-take-le}
 use Rattle.base.specs.Part.{slice}
 use Rattle.chain.proofs.Laws.{readables_fit, none_readable}
 use Rattle.chain.proofs.addrs.readables.Goals as goal

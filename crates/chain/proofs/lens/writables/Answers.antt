@@ -1,6 +1,5 @@
 -- `chain::lens::writables` meets its contract: each exit by the test that led to it.
 -- Assumes nothing.
-use borrow.Author.Rules.{rules}
 use Rattle.base.specs.Part.{slice}
 use Rattle.chain.proofs.Laws.{writables_fit, none_writable}
 use Rattle.chain.proofs.lens.writables.Goals as goal

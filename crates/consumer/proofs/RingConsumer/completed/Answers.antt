@@ -1,6 +1,5 @@
 -- `consumer::RingConsumer::completed` meets its contract: the count is at most the size, so the cursor moves by it.
 -- Assumes nothing.
-use borrow.Author.Rules.{rules}
 use Prim.Native.Nat.{◌-◌}
 use mathlib.Core.Path.{◌≡◌, ap, ◌∙◌}
 use Rattle.cursor.specs.Cursor.{steps, Outcome}

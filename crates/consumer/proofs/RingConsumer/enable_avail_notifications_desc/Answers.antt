@@ -1,6 +1,5 @@
 -- `consumer::RingConsumer::enable_avail_notifications_desc` meets its contract: each exit by the tests that led to it.
 -- Assumes nothing.
-use borrow.Author.Rules.{rules}
 use Prim.Native.Nat.{ℕ}
 use mathlib.Core.Path.{sym, ap₂, ◌∙◌}
 use mathlib.Core.List.{List, []}

@@ -1,6 +1,5 @@
 -- `consumer::RingConsumer::is_full` meets its contract: 7 or the value.
 -- Assumes nothing.
-use borrow.Author.Rules.{rules}
 use mathlib.Core.Path.{sym, ◌∙◌}
 use Rattle.ring.proofs.Asked.{ask_bad, ask_good}
 use Rattle.consumer.proofs.RingConsumer.is_full.Goals as goal

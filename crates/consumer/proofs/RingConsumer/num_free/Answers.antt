@@ -1,6 +1,5 @@
 -- `consumer::RingConsumer::num_free` meets its contract: 7 or the value, a count of at most the size.
 -- Assumes nothing.
-use borrow.Author.Rules.{rules}
 use native.Mathlib.Omega.{arith}
 use mathlib.Core.Path.{sym, ◌∙◌}
 use Rattle.ring.proofs.Asked.{ask_bad, ask_good}

@@ -1,6 +1,5 @@
 -- `consumer::RingConsumer::past` meets its contract: field by field.
 -- Assumes nothing.
-use borrow.Author.Rules.{rules}
 use mathlib.Core.Path.{refl}
 use Rattle.consumer.specs.Poll.{past_of}
 use Rattle.consumer.proofs.RingConsumer.past.Goals as goal

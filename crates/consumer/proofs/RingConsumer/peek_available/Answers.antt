@@ -1,6 +1,5 @@
 -- `consumer::RingConsumer::peek_available` meets its contract: each exit by the tests that led to it.
 -- Assumes nothing.
-use borrow.Author.Rules.{rules}
 use mathlib.Core.Path.{sym, ap, ◌∙◌}
 use mathlib.Core.List.{[], ◌∷◌}
 use mathlib.Core.Bool.{Bool}

@@ -1,6 +1,5 @@
 -- `consumer::RingConsumer::poll_available` meets its contract: each exit by what was found up to the head, then by the walk.
 -- Assumes nothing.
-use borrow.Author.Rules.{rules}
 use native.Mathlib.Omega.{arith}
 use Prim.Native.Nat.{ℕ}
 use mathlib.Core.Path.{◌≡◌, sym, ap, ap₂, ◌∙◌}
@@ -13,6 +12,24 @@ use Rattle.walk.specs.declared.Walk.{Walk}
 use Rattle.consumer.specs.Poll.{taken, head_refusal, walk_refusal, walked_of, head_of, polled_of}
 use Rattle.consumer.proofs.Poll.{walk_ready, walk_below, head_below, poll_stopped, poll_refused, poll_taken}
 use Rattle.consumer.proofs.RingConsumer.poll_available.Goals as goal
+use Rattle.consumer.proofs.RingConsumer.poll_available.Goals.{After-walk-bad, Else-no-ne0}
+
+-- what was found at the head, in the definition's words
+at_head : (c : Else-no-ne0) → let a = c.args in
+    head_refusal a.self (length a.ring.now) (head_of a.self a.ring.now) (length a.counts.now) (length a.addrs.now) (length a.lens.now) 0 ≡ 0
+at_head c =
+    let a = c.args in
+    sym (c.head-no.ensures
+    ∙ ap (λ (d : Descriptor). head_refusal a.self (length a.ring.now) d (length a.counts.now) (length a.addrs.now) (length a.lens.now) 0) c.look-d.ensures)
+    ∙ c.if-no-ne0.false
+
+-- and by the walk
+at_walk : (c : After-walk-bad) → let a = c.args in
+    c.walk-bad.result ≡ walk_refusal a.self (walked_of a.self a.ring.now) (head_of a.self a.ring.now).id a.counts.now
+at_walk c =
+    let a = c.args in
+    c.walk-bad.ensures
+    ∙ ap₂ (λ (w : Walk) (d : Descriptor). walk_refusal a.self w d.id a.counts.now) c.chain-w.ensures c.look-d.ensures
 
 pub returns-then-no-ne0 : goal.returns-then-no-ne0
 returns-then-no-ne0 c =
@@ -27,14 +44,9 @@ pub returns-then-bad-ne0 : goal.returns-then-bad-ne0
 returns-then-bad-ne0 c =
     let a = c.args in
     refuses (λ (x : ℕ). taken (refused x) a.self a.counts.now a.addrs.now a.lens.now) _ _ _ _
-    c.numbered-then-bad-ne0.ensures ((let at_walk : let a = c.args in c.walk-bad.result ≡ walk_refusal a.self (walked_of a.self a.ring.now) (head_of a.self a.ring.now).id a.counts.now = let a = c.args in
-    c.walk-bad.ensures
-    ∙ ap₂ (λ (w : Walk) (d : Descriptor). walk_refusal a.self w d.id a.counts.now) c.chain-w.ensures c.look-d.ensures in at_walk)) c.if-bad-ne0.true
+    c.numbered-then-bad-ne0.ensures (at_walk (goal.at.returns-then-bad-ne0 c).After-walk-bad) c.if-bad-ne0.true
     (walk_below a.self (walked_of a.self a.ring.now) (head_of a.self a.ring.now).id a.counts.now)
-    (poll_refused a.self a.ring.now a.counts.now a.addrs.now a.lens.now ((let at_head : let a = c.args in head_refusal a.self (length a.ring.now) (head_of a.self a.ring.now) (length a.counts.now) (length a.addrs.now) (length a.lens.now) 0 ≡ 0 = let a = c.args in
-    sym (c.head-no.ensures
-    ∙ ap (λ (d : Descriptor). head_refusal a.self (length a.ring.now) d (length a.counts.now) (length a.addrs.now) (length a.lens.now) 0) c.look-d.ensures)
-    ∙ c.if-no-ne0.false in at_head)))
+    (poll_refused a.self a.ring.now a.counts.now a.addrs.now a.lens.now (at_head (goal.at.returns-then-bad-ne0 c).Else-no-ne0))
 
 pub past-requires : goal.past-requires
 past-requires c =
@@ -50,9 +62,4 @@ returns c =
     let o = c.copy_out.ensures in
     (λ i. taken (done (d.id ∷ w.count ∷ w.readable ∷ [])) (c.past.ensures i) (c.set16.ensures i) (o.0 i) (o.1 i))
     ∙ ap₂ (λ (v : Walk) (x : Descriptor). polled_of a.self a.ring.now x.id v a.counts.now a.addrs.now a.lens.now) c.chain-w.ensures c.look-d.ensures
-    ∙ sym (poll_taken a.self a.ring.now a.counts.now a.addrs.now a.lens.now ((let at_head : let a = c.args in head_refusal a.self (length a.ring.now) (head_of a.self a.ring.now) (length a.counts.now) (length a.addrs.now) (length a.lens.now) 0 ≡ 0 = let a = c.args in
-    sym (c.head-no.ensures
-    ∙ ap (λ (d : Descriptor). head_refusal a.self (length a.ring.now) d (length a.counts.now) (length a.addrs.now) (length a.lens.now) 0) c.look-d.ensures)
-    ∙ c.if-no-ne0.false in at_head)) (sym ((let at_walk : let a = c.args in c.walk-bad.result ≡ walk_refusal a.self (walked_of a.self a.ring.now) (head_of a.self a.ring.now).id a.counts.now = let a = c.args in
-    c.walk-bad.ensures
-    ∙ ap₂ (λ (w : Walk) (d : Descriptor). walk_refusal a.self w d.id a.counts.now) c.chain-w.ensures c.look-d.ensures in at_walk)) ∙ c.if-bad-ne0.false))
+    ∙ sym (poll_taken a.self a.ring.now a.counts.now a.addrs.now a.lens.now (at_head (goal.at.returns c).Else-no-ne0) (sym (at_walk (goal.at.returns c).After-walk-bad) ∙ c.if-bad-ne0.false))

@@ -1,6 +1,5 @@
 -- `consumer::RingConsumer::poll_checkpoint` meets its contract: 7 or the three.
 -- Assumes nothing.
-use borrow.Author.Rules.{rules}
 use mathlib.Core.Path.{sym, ◌∙◌}
 use Rattle.ring.proofs.Asked.{ask_bad, ask_good}
 use Rattle.consumer.proofs.RingConsumer.poll_checkpoint.Goals as goal

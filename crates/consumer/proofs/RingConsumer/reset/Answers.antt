@@ -1,6 +1,5 @@
 -- `consumer::RingConsumer::reset` meets its contract: the event and the counts, then the fresh record.
 -- Assumes nothing.
-use borrow.Author.Rules.{rules}
 use Prim.Native.Nat.{ℕ}
 use mathlib.Core.Path.{sym, ap, ◌∙◌}
 use mathlib.Core.List.{[]}

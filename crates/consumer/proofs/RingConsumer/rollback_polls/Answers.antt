@@ -1,6 +1,5 @@
 -- `consumer::RingConsumer::rollback_polls` meets its contract: each exit by what was handed in, then by the list, then by the checkpoint.
 -- Assumes nothing.
-use borrow.Author.Rules.{rules}
 use native.Mathlib.Omega.{arith}
 use Prim.Native.Nat.{ℕ}
 use mathlib.Core.Path.{◌≡◌, sym, ap, ap₂, ◌∙◌}
@@ -16,6 +15,21 @@ use Rattle.consumer.specs.declared.RingConsumer.{RingConsumer}
 use Rattle.consumer.specs.Outcome.{rolled}
 use Rattle.consumer.proofs.Rollback.{HandedReady, handed_ready, handed_below, rollback_stopped, rollback_refused, rollback_done, sum_stops, sum_goes, is_stale, is_current}
 use Rattle.consumer.proofs.RingConsumer.rollback_polls.Goals as goal
+use Rattle.consumer.proofs.RingConsumer.rollback_polls.Goals.{After-sum, Else-no-ne0}
+
+-- what was handed in is good
+is-handed : (c : Else-no-ne0) → let a = c.args in HandedReady a.self a.cp (length a.counts.now)
+is-handed c =
+    let a = c.args in
+    (handed_ready a.self a.cp (length a.counts.now) 0 (sym c.handed-no.ensures ∙ c.if-no-ne0.false)).0
+
+-- the sum's answer, and that the counts are as they were
+is_sum : (c : After-sum) → let a = c.args in
+    undo.answer_of c.sum.result ≡ sum_of a.self.layout.size a.self.inflight a.counts.now a.ids.now
+is_sum c = ap (λ (o : undo.Outcome). o.answer) c.sum.ensures
+
+as_before : (c : After-sum) → c.sum.new.counts ≡ c.args.counts.now
+as_before c = ap (λ (o : undo.Outcome). o.counts) c.sum.ensures
 
 pub returns-then-no-ne0 : goal.returns-then-no-ne0
 returns-then-no-ne0 c =
@@ -28,36 +42,32 @@ returns-then-no-ne0 c =
 pub returns-in_default : goal.returns-in_default
 returns-in_default c =
     let a = c.args in
-    ap (λ (l : List ℕ). rolled (refused 9) a.self l) ((let as_before : c.sum.new.counts ≡ c.args.counts.now = ap (λ (o : undo.Outcome). o.counts) c.sum.ensures in as_before))
+    ap (λ (l : List ℕ). rolled (refused 9) a.self l) (as_before (goal.at.returns-in_default c).After-sum)
     ∙ sym (rollback_refused a.self a.counts.now a.cp a.ids.now (sym c.handed-no.ensures ∙ c.if-no-ne0.false)
-    (sum_stops a.self a.counts.now a.cp a.ids.now ((let is-handed : let a = c.args in HandedReady a.self a.cp (length a.counts.now) = let a = c.args in
-    (handed_ready a.self a.cp (length a.counts.now) 0 (sym c.handed-no.ensures ∙ c.if-no-ne0.false)).0 in is-handed)) (number_of c.in_default.field-0) (sym (ap undo.answer_of c.in_default.is) ∙ (let is_sum : let a = c.args in undo.answer_of c.sum.result ≡ sum_of a.self.layout.size a.self.inflight a.counts.now a.ids.now = ap (λ (o : undo.Outcome). o.answer) c.sum.ensures in is_sum))))
+    (sum_stops a.self a.counts.now a.cp a.ids.now (is-handed (goal.at.returns-in_default c).Else-no-ne0) (number_of c.in_default.field-0) (sym (ap undo.answer_of c.in_default.is) ∙ is_sum (goal.at.returns-in_default c).After-sum)))
 
 pub stale-requires : goal.stale-requires
 stale-requires c =
     let a = c.args in
-    let h = (let is-handed : let a = c.args in HandedReady a.self a.cp (length a.counts.now) = let a = c.args in
-    (handed_ready a.self a.cp (length a.counts.now) 0 (sym c.handed-no.ensures ∙ c.if-no-ne0.false)).0 in is-handed) in
+    let h = is-handed (goal.at.stale-requires c).Else-no-ne0 in
     let l = h.sound.laid in
-    let n = sum_goes a.self a.counts.now a.cp a.ids.now h c.in-Slots.n (sym (ap undo.answer_of c.in-Slots.is) ∙ (let is_sum : let a = c.args in undo.answer_of c.sum.result ≡ sum_of a.self.layout.size a.self.inflight a.counts.now a.ids.now = ap (λ (o : undo.Outcome). o.answer) c.sum.ensures in is_sum)) in
+    let n = sum_goes a.self a.counts.now a.cp a.ids.now h c.in-Slots.n (sym (ap undo.answer_of c.in-Slots.is) ∙ is_sum (goal.at.stale-requires c).After-sum) in
     ready_not_bad a.self.layout.size c.in-Slots.n a.cp.avail
     (record { low = l.low; high = l.high; head = h.avail; move = omega (arith, n.1.0, n.1.1, h.sound.inflight) })
 
 pub returns-then-stale : goal.returns-then-stale
 returns-then-stale c =
     let a = c.args in
-    let n = sum_goes a.self a.counts.now a.cp a.ids.now ((let is-handed : let a = c.args in HandedReady a.self a.cp (length a.counts.now) = let a = c.args in
-    (handed_ready a.self a.cp (length a.counts.now) 0 (sym c.handed-no.ensures ∙ c.if-no-ne0.false)).0 in is-handed)) c.in-Slots.n (sym (ap undo.answer_of c.in-Slots.is) ∙ (let is_sum : let a = c.args in undo.answer_of c.sum.result ≡ sum_of a.self.layout.size a.self.inflight a.counts.now a.ids.now = ap (λ (o : undo.Outcome). o.answer) c.sum.ensures in is_sum)) in
-    ap (λ (l : List ℕ). rolled (refused 9) a.self l) ((let as_before : c.sum.new.counts ≡ c.args.counts.now = ap (λ (o : undo.Outcome). o.counts) c.sum.ensures in as_before))
+    let n = sum_goes a.self a.counts.now a.cp a.ids.now (is-handed (goal.at.returns-then-stale c).Else-no-ne0) c.in-Slots.n (sym (ap undo.answer_of c.in-Slots.is) ∙ is_sum (goal.at.returns-then-stale c).After-sum) in
+    ap (λ (l : List ℕ). rolled (refused 9) a.self l) (as_before (goal.at.returns-then-stale c).After-sum)
     ∙ sym (rollback_refused a.self a.counts.now a.cp a.ids.now (sym c.handed-no.ensures ∙ c.if-no-ne0.false)
     (is_stale a.self a.counts.now a.cp a.ids.now c.in-Slots.n n.1.0 (sym c.stale.ensures ∙ c.if-stale.true)))
 
 pub returns : goal.returns
 returns c =
     let a = c.args in
-    let n = sum_goes a.self a.counts.now a.cp a.ids.now ((let is-handed : let a = c.args in HandedReady a.self a.cp (length a.counts.now) = let a = c.args in
-    (handed_ready a.self a.cp (length a.counts.now) 0 (sym c.handed-no.ensures ∙ c.if-no-ne0.false)).0 in is-handed)) c.in-Slots.n (sym (ap undo.answer_of c.in-Slots.is) ∙ (let is_sum : let a = c.args in undo.answer_of c.sum.result ≡ sum_of a.self.layout.size a.self.inflight a.counts.now a.ids.now = ap (λ (o : undo.Outcome). o.answer) c.sum.ensures in is_sum)) in
+    let n = sum_goes a.self a.counts.now a.cp a.ids.now (is-handed (goal.at.returns c).Else-no-ne0) c.in-Slots.n (sym (ap undo.answer_of c.in-Slots.is) ∙ is_sum (goal.at.returns c).After-sum) in
     ap₂ (λ (q : RingConsumer) (l : List ℕ). rolled (done []) q l) c.back.ensures
-    (c.clear.ensures ∙ ap (λ (l : List ℕ). cleared_of l a.ids.now) ((let as_before : c.sum.new.counts ≡ c.args.counts.now = ap (λ (o : undo.Outcome). o.counts) c.sum.ensures in as_before)))
+    (c.clear.ensures ∙ ap (λ (l : List ℕ). cleared_of l a.ids.now) (as_before (goal.at.returns c).After-sum))
     ∙ sym (rollback_done a.self a.counts.now a.cp a.ids.now (sym c.handed-no.ensures ∙ c.if-no-ne0.false)
     (is_current a.self a.counts.now a.cp a.ids.now c.in-Slots.n n.1.0 n.0 (sym c.stale.ensures ∙ c.if-stale.false)))

@@ -1,6 +1,5 @@
 -- `consumer::RingConsumer::submit_used` meets its contract: each exit by the ladder, which `complete_ready` inverts.
 -- Assumes nothing.
-use borrow.Author.Rules.{rules}
 use native.Mathlib.Omega.{arith}
 use Prim.Native.Nat.{ℕ}
 use mathlib.Core.Path.{sym, ap, ◌∙◌}
@@ -16,6 +15,14 @@ use Rattle.consumer.specs.Outcome.{outcome}
 use Rattle.consumer.specs.Complete.{completed_of}
 use Rattle.consumer.proofs.Complete.{CompleteReady, complete_ready, complete_below, complete_refused, complete_done}
 use Rattle.consumer.proofs.RingConsumer.submit_used.Goals as goal
+use Rattle.consumer.proofs.RingConsumer.submit_used.Goals.{Else-no-ne0}
+
+-- where nothing is refused
+is_ready : (c : Else-no-ne0) → let a = c.args in
+    CompleteReady a.self (length a.ring.now) a.id a.counts.now
+is_ready c =
+    let a = c.args in
+    complete_ready a.self (length a.ring.now) a.id a.counts.now (sym c.complete-no.ensures ∙ c.if-no-ne0.false)
 
 pub returns-then-no-ne0 : goal.returns-then-no-ne0
 returns-then-no-ne0 c =
@@ -27,8 +34,7 @@ returns-then-no-ne0 c =
 
 pub completed-requires : goal.completed-requires
 completed-requires c =
-    let r = (let is_ready : let a = c.args in CompleteReady a.self (length a.ring.now) a.id a.counts.now = let a = c.args in
-    complete_ready a.self (length a.ring.now) a.id a.counts.now (sym c.complete-no.ensures ∙ c.if-no-ne0.false) in is_ready) in
+    let r = is_ready (goal.at.completed-requires c).Else-no-ne0 in
     let p = c.args.self in
     let n = c.at16-n.ensures in
     let s = r.sound in

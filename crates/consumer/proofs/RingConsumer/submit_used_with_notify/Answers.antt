@@ -1,6 +1,5 @@
 -- `consumer::RingConsumer::submit_used_with_notify` meets its contract: what the completion left, and what the driver's event area asks.
 -- Assumes nothing.
-use borrow.Author.Rules.{rules}
 use mathlib.Core.Path.{ap, ◌∙◌}
 use Rattle.consumer.specs.Outcome.{outcome}
 use Rattle.consumer.specs.Complete.{tell_of}

@@ -1,6 +1,5 @@
 -- `consumer::refuse::all` meets its contract: the ladder is the definition's, rung by rung.
 -- Assumes nothing.
-use borrow.Author.Rules.{rules}
 use Rattle.consumer.specs.Record.{lent_refusal}
 use Rattle.consumer.proofs.refuse.all.Goals as goal
 

@@ -1,6 +1,5 @@
 -- `consumer::refuse::complete` meets its contract: the ladder is the definition's, rung by rung.
 -- Assumes nothing.
-use borrow.Author.Rules.{rules}
 use Rattle.consumer.specs.Complete.{complete_refusal}
 use Rattle.consumer.proofs.refuse.complete.Goals as goal
 

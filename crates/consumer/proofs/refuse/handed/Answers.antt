@@ -1,6 +1,5 @@
 -- `consumer::refuse::handed` meets its contract: the ladder is the definition's, rung by rung.
 -- Assumes nothing.
-use borrow.Author.Rules.{rules}
 use Rattle.consumer.specs.Rollback.{handed_refusal}
 use Rattle.consumer.proofs.refuse.handed.Goals as goal
 

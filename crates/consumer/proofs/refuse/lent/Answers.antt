@@ -1,6 +1,5 @@
 -- `consumer::refuse::lent` meets its contract: the tests are the definition's.
 -- Assumes nothing.
-use borrow.Author.Rules.{rules}
 use Rattle.consumer.specs.Record.{bad_lent}
 use Rattle.consumer.proofs.refuse.lent.Goals as goal
 

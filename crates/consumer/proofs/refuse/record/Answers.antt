@@ -1,6 +1,5 @@
 -- `consumer::refuse::record` meets its contract: the tests are the definition's.
 -- Assumes nothing.
-use borrow.Author.Rules.{rules}
 use Rattle.consumer.specs.Record.{bad_record}
 use Rattle.consumer.proofs.refuse.record.Goals as goal
 

@@ -1,6 +1,5 @@
 -- `consumer::refuse::walk` meets its contract: the ladder is the definition's, rung by rung.
 -- Assumes nothing.
-use borrow.Author.Rules.{rules}
 use Rattle.consumer.specs.Poll.{walk_refusal}
 use Rattle.consumer.proofs.refuse.walk.Goals as goal
 

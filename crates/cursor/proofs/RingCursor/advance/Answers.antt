@@ -1,6 +1,5 @@
 -- `cursor::RingCursor::advance` meets its contract: a single step is a move by one.
 -- Assumes nothing.
-use borrow.Author.Rules.{rules}
 use mathlib.Core.Path.{sym, ap, ◌∙◌}
 use Rattle.base.specs.Answer.{done}
 use Rattle.cursor.specs.declared.RingCursor.{RingCursor}

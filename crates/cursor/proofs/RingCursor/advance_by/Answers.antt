@@ -1,6 +1,5 @@
 -- `cursor::RingCursor::advance_by` meets its contract: `divided` gives the steps.
 -- Assumes nothing.
-use borrow.Author.Rules.{rules}
 use mathlib.Core.Path.{sym, ap, ◌∙◌}
 use Rattle.base.specs.Answer.{done}
 use Rattle.cursor.specs.declared.RingCursor.{RingCursor}

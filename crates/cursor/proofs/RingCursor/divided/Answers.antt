@@ -10,6 +10,10 @@ use Rattle.cursor.specs.Cursor.{at}
 use Rattle.cursor.proofs.Laws.{steps_within, steps_past}
 use Rattle.cursor.proofs.Ready.{Ready, ready}
 use Rattle.cursor.proofs.RingCursor.divided.Goals as goal
+use Rattle.cursor.proofs.RingCursor.divided.Goals.{Start}
+
+known : (c : Start) → let a = c.args in Ready a.size a.n a.self
+known c = let a = c.args in ready a.size a.n a.self c.requires
 
 -- a sum below the size, and one that is less than twice the size
 within : {x m : ℕ} → x < m → (x / m ≡ 0) × (x % m ≡ x)
@@ -30,18 +34,18 @@ even : {q : ℕ} → q ≡ 0 → (q % 2 ≡ 0 → ⊥) → ⊥
 even e h = omega arith
 
 pub overflow_add-new : goal.overflow_add-new
-overflow_add-new c = omega (arith, (let known : let a = c.args in Ready a.size a.n a.self = let a = c.args in ready a.size a.n a.self c.requires in known))
+overflow_add-new c = omega (arith, known (goal.at.overflow_add-new c).Start)
 
 pub nonzero_div-wraps : goal.nonzero_div-wraps
-nonzero_div-wraps c = omega (arith, (let known : let a = c.args in Ready a.size a.n a.self = let a = c.args in ready a.size a.n a.self c.requires in known))
+nonzero_div-wraps c = omega (arith, known (goal.at.nonzero_div-wraps c).Start)
 
 pub nonzero_rem-result : goal.nonzero_rem-result
-nonzero_rem-result c = omega (arith, (let known : let a = c.args in Ready a.size a.n a.self = let a = c.args in ready a.size a.n a.self c.requires in known))
+nonzero_rem-result c = omega (arith, known (goal.at.nonzero_rem-result c).Start)
 
 pub returns-then-wraps-eq0 : goal.returns-then-wraps-eq0
 returns-then-wraps-eq0 c =
     let a = c.args in
-    let k = (let known : let a = c.args in Ready a.size a.n a.self = let a = c.args in ready a.size a.n a.self c.requires in known) in
+    let k = known (goal.at.returns-then-wraps-eq0 c).Start in
     let new : ℕ = a.self.head + a.n in
     by_lt new a.size
     (λ l. ap (λ (x : ℕ). at x a.self.wrap) (within l).1 ∙ sym (steps_within a.size a.n a.self l))
@@ -50,7 +54,7 @@ returns-then-wraps-eq0 c =
 pub returns : goal.returns
 returns c =
     let a = c.args in
-    let k = (let known : let a = c.args in Ready a.size a.n a.self = let a = c.args in ready a.size a.n a.self c.requires in known) in
+    let k = known (goal.at.returns c).Start in
     let new : ℕ = a.self.head + a.n in
     by_lt new a.size
     (λ l. absurd (even (within l).0 c.if-wraps-eq0.false))

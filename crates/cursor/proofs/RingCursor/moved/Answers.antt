@@ -1,6 +1,5 @@
 -- `cursor::RingCursor::moved` meets its contract: the cursor of `advance_by`.
 -- Assumes nothing.
-use borrow.Author.Rules.{rules}
 use mathlib.Core.Path.{sym, ap, ◌∙◌}
 use Rattle.cursor.specs.Cursor.{Outcome}
 use Rattle.cursor.proofs.Ready.{ready, advance_ready, advance_refused}

@@ -1,6 +1,5 @@
 -- `cursor::RingCursor::stepped` meets its contract: the test is the definition's.
 -- Assumes nothing.
-use borrow.Author.Rules.{rules}
 use mathlib.Core.Path.{sym}
 use Rattle.cursor.proofs.Laws.{step_on, step_last}
 use Rattle.cursor.proofs.RingCursor.stepped.Goals as goal

@@ -1,6 +1,5 @@
 -- `desc::DescTable::clear` meets its contract: a table of more slots than the bytes have room for is not whole.
 -- Assumes nothing.
-use borrow.Author.Rules.{rules}
 use native.Mathlib.Omega.{arith}
 use Prim.Native.Nat.{ℕ, ◌*◌}
 use mathlib.Core.Path.{sym}

@@ -1,10 +1,7 @@
 -- `desc::DescTable::desc_addr` meets its contract: each exit by the tests that led to it.
 -- Assumes nothing.
-use borrow.Author.Rules.{rules}
-use native.Mathlib.Omega.{arith}
-use Prim.Native.Nat.{◌+◌, ◌*◌}
 use mathlib.Core.Path.{sym, ◌∙◌}
-use borrow.Author.Tests.{lt-ltb, le-ltb, leb-true}
+use borrow.Author.Tests.{lt-ltb, le-ltb}
 use Rattle.desc.specs.Table.{desc_addr_of}
 use Rattle.desc.proofs.DescTable.desc_addr.Goals as goal
 

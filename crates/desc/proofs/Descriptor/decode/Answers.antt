@@ -1,6 +1,5 @@
 -- `desc::Descriptor::decode` meets its contract: each field is the word of its bytes.
 -- Assumes nothing.
-use borrow.Author.Rules.{rules}
 use native.Mathlib.Omega.{arith}
 use mathlib.Core.Path.{◌≡◌}
 use Rattle.base.specs.Bytes.{word_at}

@@ -1,6 +1,5 @@
 -- `desc::Descriptor::encode` meets its contract: the bytes are the definition's, by repeated division.
 -- Assumes nothing.
-use borrow.Author.Rules.{rules}
 use mathlib.Core.Path.{refl}
 use Rattle.base.specs.Bytes.{bytes_of}
 use Rattle.desc.specs.Desc.{encode_of}

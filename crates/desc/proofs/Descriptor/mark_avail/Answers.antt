@@ -1,10 +1,7 @@
 -- `desc::Descriptor::mark_avail` meets its contract: the two parts of the flags word do not overlap, so their sum fits.
 -- Assumes nothing.
-use borrow.Author.Rules.{rules}
-use native.Mathlib.Omega.{arith}
 use Prim.Native.Nat.{◌+◌}
 use Rattle.desc.specs.Desc.{descriptor, mark_avail}
-use Rattle.desc.proofs.Flags.{avail_fits}
 use Rattle.desc.proofs.Descriptor.mark_avail.Goals as goal
 
 pub returns : goal.returns

@@ -1,10 +1,7 @@
 -- `desc::Descriptor::mark_used` meets its contract: the two parts of the flags word do not overlap, so their sum fits.
 -- Assumes nothing.
-use borrow.Author.Rules.{rules}
-use native.Mathlib.Omega.{arith}
 use Prim.Native.Nat.{◌+◌}
 use Rattle.desc.specs.Desc.{descriptor, mark_used}
-use Rattle.desc.proofs.Flags.{used_fits}
 use Rattle.desc.proofs.Descriptor.mark_used.Goals as goal
 
 pub returns : goal.returns

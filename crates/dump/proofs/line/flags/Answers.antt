@@ -1,7 +1,6 @@
 -- `dump::line::flags` meets its contract: one name behind the other.
 -- Assumes nothing.
-use borrow.Author.Rules.{rules}
-use mathlib.Core.Path.{◌≡◌, sym, ap, ap₂, ◌∙◌}
+use mathlib.Core.Path.{ap, ◌∙◌}
 use mathlib.Core.Bool.{cond}
 use mathlib.Core.List.{[], ◌∷◌}
 use lib.Dec.{eqb}

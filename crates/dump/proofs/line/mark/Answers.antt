@@ -1,9 +1,8 @@
 -- `dump::line::mark` meets its contract: each exit by the tests that led to it.
 -- Assumes nothing.
-use borrow.Author.Rules.{rules}
 use Prim.Native.Nat.{ℕ}
-use mathlib.Core.Path.{◌≡◌, sym, ap, ap₂, ◌∙◌}
-use mathlib.Core.List.{List, [], ◌∷◌, ◌++◌}
+use mathlib.Core.Path.{sym, ap, ◌∙◌}
+use mathlib.Core.List.{List}
 use Rattle.text.specs.Text.{words, written, put_text}
 use Rattle.dump.proofs.Lines.{mark_available, mark_used_lem, mark_neither}
 use Rattle.dump.proofs.line.mark.Goals as goal

@@ -1,7 +1,6 @@
 -- `dump::line::numbers` meets its contract: one text behind the other.
 -- Assumes nothing.
-use borrow.Author.Rules.{rules}
-use mathlib.Core.Path.{◌≡◌, sym, ap, ap₂, ◌∙◌}
+use mathlib.Core.Path.{ap, ◌∙◌}
 use Rattle.text.specs.Text.{words, right_of, hex_of, put_text, puts}
 use Rattle.dump.proofs.line.numbers.Goals as goal
 

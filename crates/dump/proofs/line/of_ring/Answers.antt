@@ -1,12 +1,10 @@
 -- `dump::line::of_ring` meets its contract: each exit by the line that it is.
 -- Assumes nothing.
-use borrow.Author.Rules.{rules}
 use native.Mathlib.Omega.{arith}
 use Prim.Native.Nat.{ℕ, suc, ◌-◌}
-use mathlib.Core.Path.{◌≡◌, sym, ap, ap₂, ◌∙◌}
+use mathlib.Core.Path.{◌≡◌, sym, ap, ◌∙◌}
 use mathlib.Core.List.{List}
 use Rattle.text.specs.Text.{words, written, puts}
-use Rattle.window.specs.declared.Slot.{Slot}
 use Rattle.window.specs.Window.{answer_of}
 use Rattle.dump.specs.Lines.{ring_line}
 use Rattle.dump.proofs.Lines.{held, absent}

@@ -1,7 +1,6 @@
 -- `dump::line::slot` meets its contract: one part of the line behind the other.
 -- Assumes nothing.
-use borrow.Author.Rules.{rules}
-use mathlib.Core.Path.{◌≡◌, sym, ap, ap₂, ◌∙◌}
+use mathlib.Core.Path.{sym, ap, ap₂, ◌∙◌}
 use mathlib.Core.Bool.{true, false}
 use Rattle.text.specs.Text.{words, Written, written, put_text, puts}
 use Rattle.dump.specs.declared.Names.{Names}

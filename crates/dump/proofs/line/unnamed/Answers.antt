@@ -1,9 +1,8 @@
 -- `dump::line::unnamed` meets its contract: each exit by the test that led to it.
 -- Assumes nothing.
-use borrow.Author.Rules.{rules}
-use mathlib.Core.Path.{◌≡◌, sym, ap, ap₂, ◌∙◌}
+use mathlib.Core.Path.{sym, ap, ◌∙◌}
 use mathlib.Core.Bool.{Bool, cond}
-use mathlib.Core.List.{List, [], ◌∷◌}
+use mathlib.Core.List.{[], ◌∷◌}
 use borrow.Author.Tests.{eq-eqb, ne_eqb}
 use Rattle.text.specs.Text.{words, hex_of, written, put_text, puts}
 use Rattle.dump.proofs.line.unnamed.Goals as goal

@@ -1,7 +1,5 @@
 -- `dump::line::whole` meets its contract: each exit by the test that led to it.
 -- Assumes nothing.
-use borrow.Author.Rules.{rules}
-use mathlib.Core.Path.{◌≡◌, sym, ap, ap₂, ◌∙◌}
 use Prim.Native.Nat.{◌/◌}
 use borrow.Author.Tests.{lt-ltb, le-ltb}
 use Rattle.dump.specs.Lines.{whole_of}

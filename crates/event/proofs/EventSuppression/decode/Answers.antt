@@ -1,6 +1,5 @@
 -- `event::EventSuppression::decode` meets its contract: each word is that of its bytes.
 -- Assumes nothing.
-use borrow.Author.Rules.{rules}
 use native.Mathlib.Omega.{arith}
 use mathlib.Core.Path.{◌≡◌}
 use Rattle.base.specs.Bytes.{word_at}

@@ -1,6 +1,5 @@
 -- `event::EventSuppression::encode` meets its contract: the bytes are the definition's, by division.
 -- Assumes nothing.
-use borrow.Author.Rules.{rules}
 use mathlib.Core.Path.{refl}
 use Rattle.base.specs.Bytes.{bytes_of}
 use Rattle.event.specs.Event.{encode_of}

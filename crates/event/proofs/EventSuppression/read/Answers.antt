@@ -1,6 +1,5 @@
 -- `event::EventSuppression::read` meets its contract: the four bytes are the area, where it is whole.
 -- Assumes nothing.
-use borrow.Author.Rules.{rules}
 use native.Mathlib.Omega.{arith}
 use Prim.Native.Nat.{ℕ, ◌+◌, ◌≤◌}
 use mathlib.Core.Path.{◌≡◌, refl, sym, ap, ◌∙◌}
@@ -11,6 +10,12 @@ use Rattle.base.proofs.Runs.{part_cons, get_fits, get_short}
 use Rattle.base.specs.Bytes.{word_at}
 use Rattle.event.specs.Event.{ENABLE, event, decode_of}
 use Rattle.event.proofs.EventSuppression.read.Goals as goal
+use Rattle.event.proofs.EventSuppression.read.Goals.{Then-ends_by}
+
+fits : (c : Then-ends_by) → let a = c.args in a.at + 4 ≤ length a.ring.now
+fits c =
+    let a = c.args in
+    leb-true (a.at + 4) (length a.ring.now) (sym c.ends_by.ensures ∙ c.if-ends_by.true)
 
 -- an area's bytes, one by one
 four :
@@ -31,9 +36,7 @@ pub returns-then-ends_by : goal.returns-then-ends_by
 returns-then-ends_by c =
     let a = c.args in
     c.decode.ensures
-    ∙ ap decode_of (sym (get_fits a.ring.now a.at 4 ((let fits : let a = c.args in a.at + 4 ≤ length a.ring.now = let a = c.args in
-    leb-true (a.at + 4) (length a.ring.now) (sym c.ends_by.ensures ∙ c.if-ends_by.true) in fits)) ∙ four a.ring.now a.at ((let fits : let a = c.args in a.at + 4 ≤ length a.ring.now = let a = c.args in
-    leb-true (a.at + 4) (length a.ring.now) (sym c.ends_by.ensures ∙ c.if-ends_by.true) in fits))))
+    ∙ ap decode_of (sym (get_fits a.ring.now a.at 4 (fits (goal.at.returns-then-ends_by c).Then-ends_by) ∙ four a.ring.now a.at (fits (goal.at.returns-then-ends_by c).Then-ends_by)))
 
 pub returns : goal.returns
 returns c =

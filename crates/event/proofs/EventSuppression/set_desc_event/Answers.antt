@@ -1,6 +1,5 @@
 -- `event::EventSuppression::set_desc_event` meets its contract: an offset of 15 bits leaves room for the wrap.
 -- Assumes nothing.
-use borrow.Author.Rules.{rules}
 use native.Mathlib.Omega.{arith}
 use Prim.Native.Nat.{ℕ, ◌+◌, ◌%◌, ◌<◌}
 use mathlib.Core.Path.{◌≡◌, ap}

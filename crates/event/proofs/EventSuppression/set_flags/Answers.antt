@@ -1,6 +1,5 @@
 -- `event::EventSuppression::set_flags` meets its contract: the sum is the definition's own.
 -- Assumes nothing.
-use borrow.Author.Rules.{rules}
 use mathlib.Core.Path.{refl}
 use Rattle.event.specs.Event.{set_flags}
 use Rattle.event.proofs.EventSuppression.set_flags.Goals as goal

@@ -1,6 +1,6 @@
 -- `exchanged::memory::hex` is safe and ends. The measure is what is left of the bytes.
 -- Assumes nothing.
-use Rattle.std.proofs.Common.{◌-◌, ◌≤◌, rules}
+use Rattle.std.proofs.Common.{◌-◌, ◌≤◌}
 use Rattle.exchanged.proofs.memory.hex.Given as goal
 
 abbrev pub invariant-loop-k : goal.invariant-loop-k

@@ -1,6 +1,6 @@
 -- `exchanged::tell::elements` is safe and ends. The measure is what is left of the elements.
 -- Assumes nothing.
-use Rattle.std.proofs.Common.{◌-◌, ◌≤◌, rules}
+use Rattle.std.proofs.Common.{◌-◌, ◌≤◌}
 use Rattle.exchanged.proofs.tell.elements.Given as goal
 
 abbrev pub invariant-loop-k : goal.invariant-loop-k

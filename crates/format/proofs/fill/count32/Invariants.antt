@@ -1,12 +1,8 @@
 -- `format::fill::count32` meets its contract. The loop's invariant: the first k entries are filled.
 -- Assumes nothing.
-use native.Mathlib.Omega.{arith}
 use Prim.Native.Nat.{◌-◌, ◌≤◌}
-use mathlib.Core.Path.{◌∙◌}
-use native.Mathlib.Nat.{zero-add}
 use Rattle.ring.specs.Tables.{up_to}
-use Rattle.ring.proofs.Laws.{up_length, up_at}
-use Rattle.format.proofs.Filling.{Filled, fill_none, fill_next, fill_all}
+use Rattle.format.proofs.Filling.{Filled}
 use Rattle.format.proofs.fill.count32.Given as goal
 
 abbrev pub invariant-loop-k : goal.invariant-loop-k

@@ -1,9 +1,8 @@
 -- `format::fill::halves` meets its contract. The loop's invariant: the first k entries are filled.
 -- Assumes nothing.
-use native.Mathlib.Omega.{arith}
-use Prim.Native.Nat.{ℕ, ◌-◌, ◌≤◌}
-use lib.ListN.{replicate, length-replicate, get_or-replicate}
-use Rattle.format.proofs.Filling.{Filled, fill_none, fill_next, fill_all}
+use Prim.Native.Nat.{◌-◌, ◌≤◌}
+use lib.ListN.{replicate}
+use Rattle.format.proofs.Filling.{Filled}
 use Rattle.format.proofs.fill.halves.Given as goal
 
 abbrev pub invariant-loop-k : goal.invariant-loop-k

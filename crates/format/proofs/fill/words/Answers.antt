@@ -1,9 +1,9 @@
 -- `format::fill::words` meets its contract. The loop's invariant: the first k entries are filled.
 -- Assumes nothing.
 use native.Mathlib.Omega.{arith}
-use Prim.Native.Nat.{ℕ, ◌-◌, ◌≤◌}
+use Prim.Native.Nat.{ℕ}
 use lib.ListN.{replicate, length-replicate, get_or-replicate}
-use Rattle.format.proofs.Filling.{Filled, fill_none, fill_next, fill_all}
+use Rattle.format.proofs.Filling.{fill_next}
 use Rattle.format.proofs.fill.words.Goals as goal
 
 pub loop-k-preserved : goal.loop-k-preserved

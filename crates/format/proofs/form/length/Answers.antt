@@ -1,6 +1,5 @@
 -- `format::form::length` meets its contract: each exit by the tests that led to it.
 -- Assumes nothing.
-use borrow.Author.Rules.{rules}
 use Prim.Native.Nat.{ℕ, ◌+◌}
 use mathlib.Core.Path.{sym, ap, ap₂, ◌∙◌}
 use mathlib.Core.Bool.{◌||◌}

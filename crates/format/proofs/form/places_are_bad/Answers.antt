@@ -1,6 +1,5 @@
 -- `format::form::places_are_bad` meets its contract: its tests are the definition's.
 -- Assumes nothing.
-use borrow.Author.Rules.{rules}
 use Prim.Native.Nat.{ℕ}
 use mathlib.Core.Path.{ap₂, ◌∙◌}
 use mathlib.Core.Bool.{◌||◌, ◌&&◌}

@@ -1,6 +1,5 @@
 -- `format::header::geometry` meets its contract, field by field.
 -- Assumes nothing.
-use borrow.Author.Rules.{rules}
 use borrow.Author.Tests.{eq-eqb, ne_eqb}
 use Rattle.layout.specs.Layout.{layout}
 use Rattle.format.specs.Header.{geometry_of}

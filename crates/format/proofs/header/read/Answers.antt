@@ -1,7 +1,6 @@
 -- `format::header::read` meets its contract: each exit by the tests that led to it.
 -- Assumes nothing.
 use native.Mathlib.Omega.{arith}
-use borrow.Author.Rules.{rules}
 use mathlib.Core.Path.{sym, ◌∙◌}
 use Rattle.format.specs.declared.header.Found.TheVariants as found
 use Rattle.format.proofs.Headers.{header_cut, header_magic, header_size, header_region, header_good}

@@ -3,12 +3,10 @@
 -- Assumes nothing.
 use native.Mathlib.Omega.{arith}
 use borrow.Author.Rules.{rules}
-use Prim.Native.Nat.{◌+◌, ◌*◌, ◌-◌, ◌≤◌, min}
-use mathlib.Core.Path.{◌≡◌}
 use lib.ListN.{length}
 use Rattle.format.specs.Input.{numbers_at}
 use Rattle.format.proofs.Reading.{numbers_length, number_read, onward}
-use Rattle.format.proofs.Filling.{Filled, fill_none, fill_next, fill_all}
+use Rattle.format.proofs.Filling.{fill_next, fill_all}
 use Rattle.format.proofs.input.longs.Goals as goal
 
 pub loop-k-preserved : goal.loop-k-preserved

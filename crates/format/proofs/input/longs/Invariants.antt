@@ -1,14 +1,11 @@
 -- `format::input::longs` meets its contract. The loop's invariant: the first k numbers are there, and the place stands for k
 -- strides behind the first.
 -- Assumes nothing.
-use native.Mathlib.Omega.{arith}
-use borrow.Author.Rules.{rules}
 use Prim.Native.Nat.{◌+◌, ◌*◌, ◌-◌, ◌≤◌, min}
 use mathlib.Core.Path.{◌≡◌}
 use lib.ListN.{length}
 use Rattle.format.specs.Input.{numbers_at}
-use Rattle.format.proofs.Reading.{numbers_length, number_read, onward}
-use Rattle.format.proofs.Filling.{Filled, fill_none, fill_next, fill_all}
+use Rattle.format.proofs.Filling.{Filled}
 use Rattle.format.proofs.input.longs.Given as goal
 
 abbrev pub invariant-loop-k : goal.invariant-loop-k

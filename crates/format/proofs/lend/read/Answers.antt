@@ -1,6 +1,5 @@
 -- `format::lend::read` meets its contract, field by field.
 -- Assumes nothing.
-use borrow.Author.Rules.{rules}
 use Prim.Native.Nat.{ℕ, min}
 use mathlib.Core.Path.{◌≡◌, ap, ◌∙◌}
 use Rattle.base.specs.Bytes.{word_at}

@@ -1,6 +1,5 @@
 -- `format::lend::whole` meets its contract: its fields are the definition's.
 -- Assumes nothing.
-use borrow.Author.Rules.{rules}
 use mathlib.Core.Path.{refl}
 use Rattle.format.specs.Lend.{whole_of}
 use Rattle.format.proofs.lend.whole.Goals as goal

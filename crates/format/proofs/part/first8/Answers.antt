@@ -1,7 +1,5 @@
 -- `format::part::first8` meets its contract: each exit by the test that led to it.
 -- Assumes nothing.
-use mathlib.Core.Path.{sym}
-use lib.Seq.{length-take-le}
 use Rattle.base.specs.Part.{slice}
 use Rattle.format.proofs.Parts.{first_fits, first_all}
 use Rattle.format.proofs.part.first8.Goals as goal

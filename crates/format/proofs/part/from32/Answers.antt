@@ -1,6 +1,5 @@
 -- `format::part::from32` meets its contract: each exit by the test that led to it.
 -- Assumes nothing.
-use borrow.Author.Rules.{rules}
 use Rattle.base.specs.Part.{slice}
 use Rattle.format.proofs.Parts.{from_fits, from_none}
 use Rattle.format.proofs.part.from32.Goals as goal

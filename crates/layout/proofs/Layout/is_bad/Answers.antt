@@ -1,6 +1,5 @@
 -- `layout::Layout::is_bad` meets its contract: the tests are the definition's.
 -- Assumes nothing.
-use borrow.Author.Rules.{rules}
 use Prim.Native.Nat.{◌%◌}
 use mathlib.Core.Path.{◌≡◌}
 use mathlib.Core.Bool.{not, ◌||◌}

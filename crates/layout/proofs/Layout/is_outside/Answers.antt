@@ -1,6 +1,5 @@
 -- `layout::Layout::is_outside` meets its contract: the comparisons are the definition's.
 -- Assumes nothing.
-use borrow.Author.Rules.{rules}
 use Prim.Native.Nat.{◌+◌}
 use mathlib.Core.Path.{◌≡◌}
 use mathlib.Core.Bool.{not, ◌||◌}

@@ -1,6 +1,5 @@
 -- `layout::Layout::new` meets its contract: each exit by the test that led to it.
 -- Assumes nothing.
-use borrow.Author.Rules.{rules}
 use mathlib.Core.Path.{sym, ap₂, ◌∙◌}
 use mathlib.Core.Bool.{◌||◌}
 use Rattle.layout.specs.Layout.{layout}

@@ -1,6 +1,5 @@
 -- `lines::output::answer` meets its contract: the line's start, and then the values that there are.
 -- Assumes nothing.
-use borrow.Author.Rules.{rules}
 use mathlib.Core.Path.{sym, ap, ap₂, ◌∙◌}
 use mathlib.Core.List.{List, [], ◌∷◌}
 use Prim.Native.Nat.{ℕ}

@@ -1,6 +1,5 @@
 -- `lines::output::bad` meets its contract: the word is put whole.
 -- Assumes nothing.
-use borrow.Author.Rules.{rules}
 use Rattle.text.specs.Text.{words}
 use Rattle.lines.proofs.output.bad.Goals as goal
 

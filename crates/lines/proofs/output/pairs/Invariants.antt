@@ -1,14 +1,10 @@
 -- `lines::output::pairs` meets its contract. The loop's invariant: to put the pairs from k on is to put them all.
 -- Assumes nothing.
-use native.Mathlib.Omega.{arith}
-use borrow.Author.Rules.{rules}
-use Prim.Native.Nat.{ℕ, ◌+◌, ◌-◌, ◌≤◌}
-use mathlib.Core.Path.{◌≡◌, refl, sym, ap, ap₂, ◌∙◌}
-use mathlib.Core.List.{[], ◌∷◌}
+use Prim.Native.Nat.{◌-◌, ◌≤◌}
+use mathlib.Core.Path.{◌≡◌}
 use lib.ListN.{length, drop}
-use Rattle.text.specs.Text.{Written, written}
+use Rattle.text.specs.Text.{written}
 use Rattle.lines.specs.Text.{put_values, pairs_of}
-use Rattle.lines.proofs.Texts.{pairs_next, pairs_done}
 use Rattle.lines.proofs.output.pairs.Given as goal
 
 abbrev pub invariant-loop-k : goal.invariant-loop-k

@@ -1,6 +1,5 @@
 -- `lines::output::start` meets its contract: two numbers, one after the other.
 -- Assumes nothing.
-use borrow.Author.Rules.{rules}
 use mathlib.Core.Path.{sym, ap, ◌∙◌}
 use mathlib.Core.List.{[], ◌∷◌}
 use Rattle.text.specs.Text.{written}

@@ -1,6 +1,5 @@
 -- `lines::output::value` meets its contract: one number with a space behind it.
 -- Assumes nothing.
-use borrow.Author.Rules.{rules}
 use mathlib.Core.Path.{sym, ◌∙◌}
 use Rattle.text.specs.Text.{written}
 use Rattle.lines.proofs.Texts.{one_value}

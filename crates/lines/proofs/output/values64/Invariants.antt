@@ -1,13 +1,10 @@
 -- `lines::output::values64` meets its contract. The loop's invariant: to put those from k on is to put them all.
 -- Assumes nothing.
-use native.Mathlib.Omega.{arith}
-use borrow.Author.Rules.{rules}
-use Prim.Native.Nat.{ℕ, ◌+◌, ◌-◌, ◌≤◌}
-use mathlib.Core.Path.{◌≡◌, refl, sym, ap, ◌∙◌}
+use Prim.Native.Nat.{◌-◌, ◌≤◌}
+use mathlib.Core.Path.{◌≡◌}
 use lib.ListN.{length, drop}
 use Rattle.text.specs.Text.{written}
 use Rattle.lines.specs.Text.{put_values}
-use Rattle.lines.proofs.Texts.{values_next, values_done}
 use Rattle.lines.proofs.output.values64.Given as goal
 
 abbrev pub invariant-loop-k : goal.invariant-loop-k

@@ -1,9 +1,8 @@
 -- `lines::output::values8` meets its contract. The loop's invariant: to put those from k on is to put them all.
 -- Assumes nothing.
 use native.Mathlib.Omega.{arith}
-use borrow.Author.Rules.{rules}
-use Prim.Native.Nat.{ℕ, ◌+◌, ◌-◌, ◌≤◌}
-use mathlib.Core.Path.{◌≡◌, refl, sym, ap, ◌∙◌}
+use Prim.Native.Nat.{ℕ, ◌+◌}
+use mathlib.Core.Path.{◌≡◌, sym, ap, ◌∙◌}
 use lib.ListN.{length, drop}
 use Rattle.text.specs.Text.{written}
 use Rattle.lines.specs.Text.{put_values}

@@ -1,6 +1,5 @@
 -- `producer::RingProducer::avail_cursor` meets its contract: 7 or the value.
 -- Assumes nothing.
-use borrow.Author.Rules.{rules}
 use mathlib.Core.Path.{sym, ◌∙◌}
 use Rattle.ring.proofs.Asked.{ask_bad, ask_good}
 use Rattle.producer.proofs.RingProducer.avail_cursor.Goals as goal

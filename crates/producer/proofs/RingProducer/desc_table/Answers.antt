@@ -1,6 +1,5 @@
 -- `producer::RingProducer::desc_table` meets its contract: 7 or the value.
 -- Assumes nothing.
-use borrow.Author.Rules.{rules}
 use mathlib.Core.Path.{sym, ap, ◌∙◌}
 use Rattle.ring.proofs.Asked.{ask_bad, ask_good}
 use Rattle.ring.specs.Asked.{table_answer}

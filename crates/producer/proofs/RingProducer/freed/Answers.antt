@@ -1,13 +1,16 @@
 -- `producer::RingProducer::freed` meets its contract: the count is at most the size, so the cursor moves by it.
 -- Assumes nothing.
-use borrow.Author.Rules.{rules}
 use Prim.Native.Nat.{◌+◌}
+use native.Mathlib.Omega.{arith}
 use mathlib.Core.Path.{◌≡◌}
 use mathlib.Core.Path.{ap, ◌∙◌}
 use Rattle.cursor.specs.Cursor.{steps, Outcome}
 use Rattle.cursor.proofs.Ready.{ready, advance_ready}
 use Rattle.producer.specs.Poll.{freed_of}
 use Rattle.producer.proofs.RingProducer.freed.Goals as goal
+
+pub overflow_add-result : goal.overflow_add-result
+overflow_add-result c = omega arith
 
 pub returns : goal.returns
 unfolding freed_of

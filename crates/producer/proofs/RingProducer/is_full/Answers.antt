@@ -1,6 +1,5 @@
 -- `producer::RingProducer::is_full` meets its contract: 7 or the value.
 -- Assumes nothing.
-use borrow.Author.Rules.{rules}
 use mathlib.Core.Path.{sym, ◌∙◌}
 use Rattle.ring.proofs.Asked.{ask_bad, ask_good}
 use Rattle.producer.proofs.RingProducer.is_full.Goals as goal

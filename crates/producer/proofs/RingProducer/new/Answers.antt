@@ -1,6 +1,5 @@
 -- `producer::RingProducer::new` meets its contract: by what the layout's test answered, and the tables' lengths.
 -- Assumes nothing.
-use borrow.Author.Rules.{rules}
 use mathlib.Core.Path.{sym, ap, ◌∙◌}
 use lib.ListN.{length}
 use Rattle.base.specs.Answer.{done}

@@ -1,6 +1,5 @@
 -- `producer::RingProducer::next_id` meets its contract: each exit by the ladder.
 -- Assumes nothing.
-use borrow.Author.Rules.{rules}
 use Prim.Native.Nat.{ℕ}
 use mathlib.Core.Path.{sym, ap, ◌∙◌}
 use mathlib.Core.List.{[], ◌∷◌}

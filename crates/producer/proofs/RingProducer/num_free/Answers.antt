@@ -1,6 +1,5 @@
 -- `producer::RingProducer::num_free` meets its contract: 7 or the value.
 -- Assumes nothing.
-use borrow.Author.Rules.{rules}
 use mathlib.Core.Path.{sym, ◌∙◌}
 use Rattle.ring.proofs.Asked.{ask_bad, ask_good}
 use Rattle.producer.proofs.RingProducer.num_free.Goals as goal

@@ -1,6 +1,5 @@
 -- `producer::RingProducer::num_inflight` meets its contract: 7 or the value.
 -- Assumes nothing.
-use borrow.Author.Rules.{rules}
 use mathlib.Core.Path.{sym, ◌∙◌}
 use Rattle.ring.proofs.Asked.{ask_bad, ask_good}
 use native.Mathlib.Omega.{arith}

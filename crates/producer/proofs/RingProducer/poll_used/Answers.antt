@@ -1,6 +1,5 @@
 -- `producer::RingProducer::poll_used` meets its contract: each exit by the ladder, which `poll_ready` inverts.
 -- Assumes nothing.
-use borrow.Author.Rules.{rules}
 use Prim.Native.Nat.{ℕ}
 use mathlib.Core.Path.{sym, ap, ◌∙◌}
 use mathlib.Core.List.{[], ◌∷◌}
@@ -14,6 +13,15 @@ use Rattle.producer.specs.Outcome.{outcome}
 use Rattle.producer.specs.Poll.{poll_refusal, freed_of, polled_of}
 use Rattle.producer.proofs.Poll.{PollReady, poll_ready, poll_below, poll_refused, poll_done}
 use Rattle.producer.proofs.RingProducer.poll_used.Goals as goal
+use Rattle.producer.proofs.RingProducer.poll_used.Goals.{Else-no-ne0}
+
+-- where nothing is refused
+is_ready : (c : Else-no-ne0) → let a = c.args in
+    PollReady a.self (length a.ring.now) c.look-d.result (length a.ids.now) a.counts.now
+is_ready c =
+    let a = c.args in
+    poll_ready a.self (length a.ring.now) c.look-d.result (length a.ids.now) a.counts.now
+    (sym c.poll-no.ensures ∙ c.if-no-ne0.false)
 
 pub returns-then-no-ne0 : goal.returns-then-no-ne0
 returns-then-no-ne0 c =
@@ -26,9 +34,7 @@ returns-then-no-ne0 c =
 
 pub freed-requires : goal.freed-requires
 freed-requires c =
-    let r = (let is_ready : let a = c.args in PollReady a.self (length a.ring.now) c.look-d.result (length a.ids.now) a.counts.now = let a = c.args in
-    poll_ready a.self (length a.ring.now) c.look-d.result (length a.ids.now) a.counts.now
-    (sym c.poll-no.ensures ∙ c.if-no-ne0.false) in is_ready) in
+    let r = is_ready (goal.at.freed-requires c).Else-no-ne0 in
     let p = c.args.self in
     let n = c.at16-n.ensures in
     let s = r.sound in

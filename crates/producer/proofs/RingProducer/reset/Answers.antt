@@ -1,6 +1,5 @@
 -- `producer::RingProducer::reset` meets its contract: the table, the event and both tables, then the fresh record.
 -- Assumes nothing.
-use borrow.Author.Rules.{rules}
 use Prim.Native.Nat.{ℕ}
 use mathlib.Core.Path.{sym, ap, ◌∙◌}
 use mathlib.Core.List.{List, []}

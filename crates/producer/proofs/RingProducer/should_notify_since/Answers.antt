@@ -1,6 +1,5 @@
 -- `producer::RingProducer::should_notify_since` meets its contract: each exit by the ladder.
 -- Assumes nothing.
-use borrow.Author.Rules.{rules}
 use mathlib.Core.Path.{sym, ap, ◌∙◌}
 use mathlib.Core.List.{[], ◌∷◌}
 use lib.ListN.{length}

@@ -1,6 +1,5 @@
 -- `producer::RingProducer::submit_one_with_notify` meets its contract: what the submission left, and what the device's event area asks.
 -- Assumes nothing.
-use borrow.Author.Rules.{rules}
 use mathlib.Core.Path.{ap, ◌∙◌}
 use Rattle.producer.specs.Outcome.{outcome}
 use Rattle.producer.specs.Tell.{tell_of}

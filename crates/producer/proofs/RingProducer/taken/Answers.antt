@@ -1,6 +1,5 @@
 -- `producer::RingProducer::taken` meets its contract: field by field.
 -- Assumes nothing.
-use borrow.Author.Rules.{rules}
 use mathlib.Core.Path.{refl}
 use Rattle.producer.specs.Submit.{taken_of}
 use Rattle.producer.proofs.RingProducer.taken.Goals as goal

@@ -1,6 +1,5 @@
 -- `producer::refuse::all` meets its contract: the ladder is the definition's, rung by rung.
 -- Assumes nothing.
-use borrow.Author.Rules.{rules}
 use Rattle.producer.specs.Record.{lent_refusal}
 use Rattle.producer.proofs.refuse.all.Goals as goal
 

@@ -1,6 +1,5 @@
 -- `producer::refuse::bytes` meets its contract: the ladder is the definition's, rung by rung.
 -- Assumes nothing.
-use borrow.Author.Rules.{rules}
 use Rattle.producer.specs.Record.{bytes_refusal}
 use Rattle.producer.proofs.refuse.bytes.Goals as goal
 

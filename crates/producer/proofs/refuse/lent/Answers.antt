@@ -1,6 +1,5 @@
 -- `producer::refuse::lent` meets its contract: the tests are the definition's.
 -- Assumes nothing.
-use borrow.Author.Rules.{rules}
 use Rattle.producer.specs.Record.{bad_lent}
 use Rattle.producer.proofs.refuse.lent.Goals as goal
 

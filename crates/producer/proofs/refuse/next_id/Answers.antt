@@ -1,6 +1,5 @@
 -- `producer::refuse::next_id` meets its contract: the ladder is the definition's, rung by rung.
 -- Assumes nothing.
-use borrow.Author.Rules.{rules}
 use Rattle.producer.specs.Poll.{next_refusal}
 use Rattle.producer.proofs.refuse.next_id.Goals as goal
 

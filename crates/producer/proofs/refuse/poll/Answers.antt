@@ -1,6 +1,5 @@
 -- `producer::refuse::poll` meets its contract: the ladder is the definition's, rung by rung.
 -- Assumes nothing.
-use borrow.Author.Rules.{rules}
 use Rattle.producer.specs.Poll.{poll_refusal}
 use Rattle.producer.proofs.refuse.poll.Goals as goal
 

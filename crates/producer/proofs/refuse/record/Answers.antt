@@ -1,6 +1,5 @@
 -- `producer::refuse::record` meets its contract: the tests are the definition's.
 -- Assumes nothing.
-use borrow.Author.Rules.{rules}
 use Rattle.producer.specs.Record.{bad_record}
 use Rattle.producer.proofs.refuse.record.Goals as goal
 

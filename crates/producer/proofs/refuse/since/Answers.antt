@@ -1,6 +1,5 @@
 -- `producer::refuse::since` meets its contract: the ladder is the definition's, rung by rung.
 -- Assumes nothing.
-use borrow.Author.Rules.{rules}
 use Rattle.producer.specs.Notices.{since_refusal}
 use Rattle.producer.proofs.refuse.since.Goals as goal
 

@@ -1,6 +1,5 @@
 -- `producer::refuse::submit` meets its contract: the ladder is the definition's, rung by rung.
 -- Assumes nothing.
-use borrow.Author.Rules.{rules}
 use Rattle.producer.specs.Submit.{submit_refusal}
 use Rattle.producer.proofs.refuse.submit.Goals as goal
 

@@ -1,6 +1,5 @@
 -- `producer::write::chain` meets its contract: what `tails` left, and the head over it.
 -- Assumes nothing.
-use borrow.Author.Rules.{rules}
 use Prim.Native.Nat.{ℕ, ◌-◌}
 use mathlib.Core.Path.{ap, ◌∙◌}
 use mathlib.Core.List.{List}

@@ -1,11 +1,8 @@
 -- `producer::write::element` meets its contract: two flags at the most, and total reads.
 -- Assumes nothing.
-use borrow.Author.Rules.{rules}
 use native.Mathlib.Omega.{arith}
 use Prim.Native.Nat.{ℕ, ◌+◌, ◌≤◌}
 use mathlib.Core.Bool.{Bool, true, false, cond}
-use Rattle.desc.specs.Flags.{NEXT, WRITE}
-use lib.Dec.{ltb}
 use Rattle.producer.specs.Submit.{element_of}
 use Rattle.producer.proofs.write.element.Goals as goal
 

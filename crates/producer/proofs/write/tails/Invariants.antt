@@ -1,17 +1,9 @@
 -- `producer::write::tails` meets its contract. The loop's invariant: finishing from here gives the whole.
 -- Assumes nothing.
-use borrow.Author.Rules.{rules}
-use native.Mathlib.Omega.{arith}
-use Prim.Native.Nat.{ℕ, ◌+◌, ◌-◌, ◌<◌}
-use mathlib.Core.Path.{◌≡◌, refl, sym, ap, ap₂, ◌∙◌}
-use mathlib.Core.List.{List}
+use Prim.Native.Nat.{◌-◌, ◌<◌}
+use mathlib.Core.Path.{◌≡◌}
 use lib.ListN.{length}
-use Rattle.cursor.specs.declared.RingCursor.{RingCursor}
-use Rattle.desc.specs.declared.Descriptor.{Descriptor}
-use Rattle.desc.specs.Desc.{mark_avail}
-use Rattle.ring.specs.Slots.{slot_put}
 use Rattle.producer.specs.Submit.{element_of, put_tails}
-use Rattle.producer.proofs.Chain.{tails_more, tails_none}
 use Rattle.producer.proofs.write.tails.Given as goal
 
 abbrev pub invariant-loop-i : goal.invariant-loop-i

@@ -1,6 +1,5 @@
 -- `replay_consumer::registers::start` is safe and ends. The loop keeps the registers' length; the measure is what is left of them.
 -- Assumes nothing.
-use borrow.Author.Rules.{rules}
 use Prim.Native.Nat.{◌-◌}
 use mathlib.Core.Path.{◌≡◌}
 use lib.ListN.{length}

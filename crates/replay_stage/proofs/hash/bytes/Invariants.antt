@@ -1,6 +1,5 @@
 -- `replay_stage::hash::bytes` is safe and ends. Nothing has to hold from turn to turn; the measure is what is left of the slice.
 -- Assumes nothing.
-use borrow.Author.Rules.{rules}
 use Prim.Native.Nat.{◌-◌}
 use lib.ListN.{length}
 use Rattle.replay_stage.proofs.hash.bytes.Given as goal

@@ -1,6 +1,5 @@
 -- `replay_stage::region::sow` is safe and ends. The loop keeps the region's length; the measure is what is left of the bytes.
 -- Assumes nothing.
-use borrow.Author.Rules.{rules}
 use Prim.Native.Nat.{◌-◌}
 use mathlib.Core.Path.{◌≡◌}
 use lib.ListN.{length}

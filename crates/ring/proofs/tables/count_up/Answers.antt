@@ -1,12 +1,11 @@
 -- `ring::tables::count_up` meets its contract. The loop's invariant: the first k entries are filled.
 -- Assumes nothing.
-use borrow.Author.Rules.{rules}
 use native.Mathlib.Omega.{arith}
-use Prim.Native.Nat.{ℕ, ◌-◌, ◌≤◌}
+use Prim.Native.Nat.{ℕ}
 use native.Mathlib.Nat.{zero-add}
-use mathlib.Core.Path.{◌≡◌, refl, ap, ◌∙◌}
+use mathlib.Core.Path.{ap, ◌∙◌}
 use mathlib.Core.List.{List}
-use lib.ListN.{length, take, set}
+use lib.ListN.{set}
 use lib.Seq.{sets, take_all}
 use Rattle.ring.specs.Tables.{up_to}
 use Rattle.ring.proofs.Laws.{up_length, up_at, filled_more}

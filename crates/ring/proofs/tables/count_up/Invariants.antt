@@ -1,15 +1,10 @@
 -- `ring::tables::count_up` meets its contract. The loop's invariant: the first k entries are filled.
 -- Assumes nothing.
-use borrow.Author.Rules.{rules}
-use native.Mathlib.Omega.{arith}
-use Prim.Native.Nat.{ℕ, ◌-◌, ◌≤◌}
-use native.Mathlib.Nat.{zero-add}
-use mathlib.Core.Path.{◌≡◌, refl, ap, ◌∙◌}
-use mathlib.Core.List.{List}
-use lib.ListN.{length, take, set}
-use lib.Seq.{sets, take_all}
+use Prim.Native.Nat.{◌-◌, ◌≤◌}
+use mathlib.Core.Path.{◌≡◌}
+use lib.ListN.{length, take}
+use lib.Seq.{sets}
 use Rattle.ring.specs.Tables.{up_to}
-use Rattle.ring.proofs.Laws.{up_length, up_at, filled_more}
 use Rattle.ring.proofs.tables.count_up.Given as goal
 
 abbrev pub invariant-loop-k : goal.invariant-loop-k

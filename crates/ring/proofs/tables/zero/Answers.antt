@@ -1,12 +1,10 @@
 -- `ring::tables::zero` meets its contract. The loop's invariant: the first k entries are filled.
 -- Assumes nothing.
-use borrow.Author.Rules.{rules}
 use native.Mathlib.Omega.{arith}
-use Prim.Native.Nat.{ℕ, ◌-◌, ◌≤◌}
-use mathlib.Core.Path.{◌≡◌, refl, ap, ◌∙◌}
+use Prim.Native.Nat.{ℕ}
+use mathlib.Core.Path.{ap, ◌∙◌}
 use mathlib.Core.List.{List}
-use lib.ListN.{length, take, set, replicate, length-replicate, get_or-replicate}
-use lib.Seq.{sets, take_all}
+use lib.ListN.{set, replicate, length-replicate, get_or-replicate}
 use Rattle.ring.proofs.Laws.{filled_more}
 use Rattle.ring.proofs.tables.zero.Goals as goal
 

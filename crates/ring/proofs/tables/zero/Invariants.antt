@@ -1,13 +1,9 @@
 -- `ring::tables::zero` meets its contract. The loop's invariant: the first k entries are filled.
 -- Assumes nothing.
-use borrow.Author.Rules.{rules}
-use native.Mathlib.Omega.{arith}
-use Prim.Native.Nat.{ℕ, ◌-◌, ◌≤◌}
-use mathlib.Core.Path.{◌≡◌, refl, ap, ◌∙◌}
-use mathlib.Core.List.{List}
-use lib.ListN.{length, take, set, replicate, length-replicate, get_or-replicate}
-use lib.Seq.{sets, take_all}
-use Rattle.ring.proofs.Laws.{filled_more}
+use Prim.Native.Nat.{◌-◌, ◌≤◌}
+use mathlib.Core.Path.{◌≡◌}
+use lib.ListN.{length, take, replicate}
+use lib.Seq.{sets}
 use Rattle.ring.proofs.tables.zero.Given as goal
 
 abbrev pub invariant-loop-k : goal.invariant-loop-k

@@ -1,6 +1,5 @@
 -- `lines::answer::Answer::four` meets its contract: each exit by the tests that led to it.
 -- Assumes nothing.
-use borrow.Author.Rules.{rules}
 use mathlib.Core.Path.{ap, ◌∙◌}
 use borrow.Author.Tests.{eq-eqb, ne_eqb}
 use Rattle.lines.specs.declared.answer.Answer.{Answer}

@@ -1,0 +1,29 @@
+-- `replay::run_all` is safe and ends. The loop keeps every slice's length, and the run within the input; the measure is what is left of the input.
+-- The three places that proofs name: a step, seen from where the run ended and from where it went on, and the loop's head, seen from a step.
+-- Assumes nothing.
+use borrow.Author.Rules.{rules}
+use Prim.Native.Nat.{ℕ, ◌-◌, ◌<◌, ◌≤◌}
+use mathlib.Core.Path.{◌≡◌, refl, subst, ◌∙◌}
+use native.Mathlib.Omega.{arith}
+use lib.ListN.{length}
+use Rattle.replay_step.specs.declared.Run.{Run}
+use Rattle.replay_step.specs.declared.Turn.{Turn}
+use Rattle.replay_step.specs.declared.Turn.TheVariants.{On}
+use Rattle.replay_step.specs.Run.{Onward}
+use Rattle.replay.proofs.run_all.Given as goal
+
+abbrev pub invariant-loop-n : goal.invariant-loop-n
+invariant-loop-n l =
+    (length l.out ≡ length l.initial.out)
+    × (length l.region ≡ length l.initial.region)
+    × (length l.ids ≡ length l.initial.ids)
+    × (length l.taken ≡ length l.initial.taken)
+    × (length l.held ≡ length l.initial.held)
+    × (length l.addrs ≡ length l.initial.addrs)
+    × (length l.lens ≡ length l.initial.lens)
+    × (length l.registers ≡ length l.initial.registers)
+    × (l.run.at ≤ length l.input)
+
+abbrev pub decreases-loop-n : goal.decreases-loop-n
+decreases-loop-n l =
+    length l.input - l.run.at
