@@ -35,7 +35,7 @@ held_at_lem :
     → consumer_answers (world k).consumer.end q ≡ answer.done (f (slots_in (items (held (history_in packed (first k))))) ∷ []) → held_at k q f
 held_at_lem k q f z = subst (λ t. consumer_answers (world k).consumer.end q ≡ answer.done (f (slots_in (items (held t))) ∷ [])) (spoken k) z
 
--- `producer_num_free`, `producer_num_inflight`, `producer_is_full`, `producer_len`
+-- `producer_num_free_lem`, `producer_num_inflight_lem`, `producer_is_full_lem`, `producer_len_lem`
 pub producer_counts :
     (producer_answers (world 28).producer.end producer_num_free ≡ answer.done (0 ∷ []))
     × (producer_answers (world 28).producer.end producer_num_inflight ≡ answer.done (3 ∷ []))
@@ -49,7 +49,7 @@ producer_counts = (
   counted.producer_len_lem (first 28),
 )
 
--- `consumer_num_free`, `consumer_num_inflight`, `consumer_is_full`, `consumer_len`
+-- `consumer_num_free_lem`, `consumer_num_inflight_lem`, `consumer_is_full_lem`, `consumer_len_lem`
 pub consumer_counts :
     (consumer_answers (world 32).consumer.end consumer_num_free ≡ answer.done (1 ∷ []))
     × (consumer_answers (world 32).consumer.end consumer_num_inflight ≡ answer.done (2 ∷ []))

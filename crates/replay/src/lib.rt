@@ -1,7 +1,7 @@
 // Runs a whole input and writes the lines to standard output.
 #![tactic(auto)]
 
-ghost use Rattle.std.specs.Prelude.{◌≡◌, ◌≤◌, length};
+ghost use Rattle.std.specs.Prelude.{◌≡◌, ◌≤◌, length, replicate};
 
 use lines::output;
 use replay_step::{Run, Turn, step};
@@ -13,9 +13,10 @@ const STDOUT_FILENO: i32 = 1;
 // The longest line: 4,096 addresses and lengths, of 32 bytes with their spaces, and a few numbers more.
 const LINE: usize = 131200;
 
-// N zeros. Its length is proved of every N: a proof that sees so long an array written out counts it.
+// N zeros. Their number is proved once, of every N: a proof that sees so long an array written out counts it.
 fn zeroed<const N: usize>() -> [u8; N]
-    ensures { N ≡ length result }
+    ensures value { result ≡ replicate N 0 }
+    ensures len { N ≡ length result }
 {
     [0; N]
 }

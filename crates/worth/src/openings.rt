@@ -1,6 +1,6 @@
 // The edges of a ring's size. What is lent has room for 32,769 slots, so that the size alone can be refused. A ring that opens is
 // asked for its size and no more: programs run rings of at most 2,048 slots.
-ghost use Rattle.std.specs.Prelude.{◌≡◌, length};
+ghost use Rattle.std.specs.Prelude.{◌≡◌, length, replicate};
 
 use consumer::RingConsumer;
 use producer::RingProducer;
@@ -11,9 +11,10 @@ pub fn sizes() {
     opened(32769);
 }
 
-// N zeros. Its length is proved of every N: a proof that sees so long an array written out counts it.
+// N zeros. Their number is proved once, of every N: a proof that sees so long an array written out counts it.
 fn zeroed<const N: usize>() -> [u8; N]
-    ensures { N ≡ length result }
+    ensures value { result ≡ replicate N 0 }
+    ensures len { N ≡ length result }
 {
     [0; N]
 }

@@ -1,15 +1,9 @@
 -- `replay::run_all` is safe and ends. The loop keeps every slice's length, and the run within the input; the measure is what is left of the input.
 -- The three places that proofs name: a step, seen from where the run ended and from where it went on, and the loop's head, seen from a step.
 -- Assumes nothing.
-use borrow.Author.Rules.{rules}
-use Prim.Native.Nat.{ℕ, ◌-◌, ◌<◌, ◌≤◌}
-use mathlib.Core.Path.{◌≡◌, refl, subst, ◌∙◌}
-use native.Mathlib.Omega.{arith}
+use Prim.Native.Nat.{◌-◌, ◌≤◌}
+use mathlib.Core.Path.{◌≡◌}
 use lib.ListN.{length}
-use Rattle.replay_step.specs.declared.Run.{Run}
-use Rattle.replay_step.specs.declared.Turn.{Turn}
-use Rattle.replay_step.specs.declared.Turn.TheVariants.{On}
-use Rattle.replay_step.specs.Run.{Onward}
 use Rattle.replay.proofs.run_all.Given as goal
 
 abbrev pub invariant-loop-n : goal.invariant-loop-n
