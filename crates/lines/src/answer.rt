@@ -75,6 +75,7 @@ impl Answer {
     }
 
     // Four answers of one value as one, or the first refusal among them.
+    #[tactic(auto, unfolding(crate::specs::Line::four_of))]
     pub fn four(a: Answer, b: Answer, c: Answer, d: Answer) -> Answer
         ensures { result ≡ four_of a b c d }
     {
