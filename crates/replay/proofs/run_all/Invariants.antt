@@ -1,5 +1,4 @@
 -- `replay::run_all` is safe and ends. The loop keeps every slice's length, and the run within the input; the measure is what is left of the input.
--- The three places that proofs name: a step, seen from where the run ended and from where it went on, and the loop's head, seen from a step.
 -- Assumes nothing.
 use Prim.Native.Nat.{◌-◌, ◌≤◌}
 use mathlib.Core.Path.{◌≡◌}
