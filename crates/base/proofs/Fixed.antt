@@ -1,24 +1,24 @@
 -- Each public contract of the crate determines what its function answers and leaves.
+use denote.RattleType.{RattleType}
+use denote.Param.Laws.{Laws, IsCopy}
+use mir.Syntax.{Dict, w64}
+use mir.Val.{Fits}
+use Prim.Native.Nat.{ℕ}
+use Rattle.std.specs.declared.clone.Clone.{Ghosts}
 use Rattle.base.specs.Refusals.{number_of}
 use Rattle.base.specs.Determined.{Determined, both}
 use Rattle.base.proofs.Determine.{by_equation, by_answer}
 use Rattle.base.proofs.Refusals.{number_same, seen, seen_same}
 use Rattle.base.proofs.RingError.number.Reads as number
 use Rattle.base.proofs.RingError.numbered.Reads as numbered
-use Rattle.base.proofs.pick.pick16.Reads as pick16
+use Rattle.base.proofs.pick.pick.Reads as pick
 use Rattle.base.proofs.pick.ends_by.Reads as ends_by
-use Rattle.base.proofs.pick.pick8.Reads as pick8
-use Rattle.base.proofs.pick.below.Reads as below
-use Rattle.base.proofs.pick.less.Reads as less
-use Rattle.base.proofs.pick.at16.Reads as at16
-use Rattle.base.proofs.pick.at32.Reads as at32
-use Rattle.base.proofs.pick.at64.Reads as at64
-use Rattle.base.proofs.pick.set16.Reads as set16
-use Rattle.base.proofs.pick.set32.Reads as set32
-use Rattle.base.proofs.pick.set64.Reads as set64
-use Rattle.base.proofs.bytes.word16.Reads as word16
-use Rattle.base.proofs.bytes.word32.Reads as word32
-use Rattle.base.proofs.bytes.word64.Reads as word64
+use Rattle.base.proofs.pick.at.Reads as at
+use Rattle.base.proofs.pick.set.Reads as set
+use Rattle.base.proofs.bytes.U16Word.read.Reads as word16
+use Rattle.base.proofs.bytes.U32Word.read.Reads as word32
+use Rattle.base.proofs.bytes.U64Word.read.Reads as word64
+use Rattle.base.proofs.bytes.get.Reads as get
 use Rattle.base.proofs.bytes.put.Reads as put
 use Rattle.base.proofs.bytes.zero.Reads as zero
 
@@ -27,9 +27,6 @@ number_fixed = by_equation _ _ _ (λ κ a r s p. p)
 
 pub numbered_fixed : Determined numbered.Post (λ r s. r)
 numbered_fixed = by_answer _ _ number_of number_same _ (λ κ a r s p. p)
-
-pub pick16_fixed : Determined pick16.Post (λ r s. r)
-pick16_fixed = by_equation _ _ _ (λ κ a r s p. p)
 
 pub ends_by_fixed : Determined ends_by.Post (λ r s. r)
 ends_by_fixed = by_equation _ _ _ (λ κ a r s p. p)
@@ -49,29 +46,17 @@ put_fixed = by_answer _ _ seen seen_same _ (λ κ a r s p. p)
 pub zero_fixed : Determined zero.Post (λ r s. both r s.0.now)
 zero_fixed = by_answer _ _ seen seen_same _ (λ κ a r s p. p)
 
-pub pick8_fixed : Determined pick8.Post (λ r s. r)
-pick8_fixed = by_equation _ _ _ (λ κ a r s p. p)
+-- for every number of bytes
+pub get_fixed : (n : ℕ) (h : Fits w64 n) → Determined (get.Post n h) (λ r s. r)
+get_fixed n h = by_equation _ _ _ (λ κ a r s p. p)
 
-pub below_fixed : Determined below.Post (λ r s. r)
-below_fixed = by_equation _ _ _ (λ κ a r s p. p)
+-- for every type of what is picked, read and set
+module _ (t : RattleType) (l : Laws t) (c : IsCopy t) (g : Ghosts t.Denot) (d : Dict) where
+  pub pick_fixed : Determined (pick.Post t l c g d) (λ r s. r)
+  pick_fixed = by_equation _ _ _ (λ κ a r s p. p)
 
-pub less_fixed : Determined less.Post (λ r s. r)
-less_fixed = by_equation _ _ _ (λ κ a r s p. p)
+  pub at_fixed : Determined (at.Post t l c g d) (λ r s. r)
+  at_fixed = by_equation _ _ _ (λ κ a r s p. p)
 
-pub at16_fixed : Determined at16.Post (λ r s. r)
-at16_fixed = by_equation _ _ _ (λ κ a r s p. p)
-
-pub at32_fixed : Determined at32.Post (λ r s. r)
-at32_fixed = by_equation _ _ _ (λ κ a r s p. p)
-
-pub at64_fixed : Determined at64.Post (λ r s. r)
-at64_fixed = by_equation _ _ _ (λ κ a r s p. p)
-
-pub set16_fixed : Determined set16.Post (λ r s. s.0.now)
-set16_fixed = by_equation _ _ _ (λ κ a r s p. p)
-
-pub set32_fixed : Determined set32.Post (λ r s. s.0.now)
-set32_fixed = by_equation _ _ _ (λ κ a r s p. p)
-
-pub set64_fixed : Determined set64.Post (λ r s. s.0.now)
-set64_fixed = by_equation _ _ _ (λ κ a r s p. p)
+  pub set_fixed : Determined (set.Post t l c g d) (λ r s. s.0.now)
+  set_fixed = by_equation _ _ _ (λ κ a r s p. p)

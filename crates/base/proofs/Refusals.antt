@@ -2,7 +2,7 @@
 -- Assumes nothing.
 use Prim.Native.Nat.{ℕ, ◌<◌}
 use mathlib.Core.Path.{◌≡◌, refl, sym, ap, ◌∙◌}
-use mathlib.Core.List.{List}
+use mathlib.Core.List.{List, []}
 use mathlib.Core.Bool.{Bool, true, false, cond}
 use native.Mathlib.Omega.{arith}
 use lib.Dec.{eqb}
@@ -11,10 +11,9 @@ use borrow.Author.Tests.{lt-ltb, eqb-true, ne_eqb}
 use Rattle.base.specs.declared.RingError.{RingError}
 use Rattle.base.specs.declared.RingError.TheVariants.{EmptyChain, BadChain, WouldBlock, OutOfMemory, InvalidState, InvalidLayout, BadRecord}
 use Rattle.base.specs.declared.RingError.TheVariants.{BadLent, BadRollback}
-use Rattle.base.specs.declared.Reply.{Reply}
-use Rattle.base.specs.declared.Reply.TheVariants.{Done, Refused}
+use Rattle.std.specs.Prelude.{Result, Ok, Err, ⊤}
 use Rattle.base.specs.Refusals.{number_of, listed}
-use Rattle.base.specs.Answer.{Answer, done, refused, valued, bit, answer_of, Outcome, outcome}
+use Rattle.base.specs.Answer.{Answer, done, refused, valued, bit, answer_by, answer_of, Outcome, outcome}
 use Rattle.base.proofs.Tests.{split}
 
 -- no refusal has number 0, and none is above 9
@@ -94,17 +93,22 @@ bit_same a b h = sym (back_bit a) ∙ ap (λ (n : ℕ). eqb n 1) h ∙ back_bit 
     back_bit true = refl
     back_bit false = refl
 
--- a reply is known by its answer
-pub reply_same : (a b : Reply) → answer_of a ≡ answer_of b → a ≡ b
-reply_same Done Done h = refl
-reply_same Done (Refused e) h = not_done e _ h
-reply_same (Refused d) Done h = not_done d _ (sym h)
-reply_same (Refused d) (Refused e) h = ap Refused (refused_same d e h)
+-- an answer is known by its number and values, where what is handed back is known by its values
+pub result_same :
+    {A : Type 0} (f : A → List ℕ) (known : (x y : A) → f x ≡ f y → x ≡ y) (a b : Result A RingError)
+    → answer_by f a ≡ answer_by f b → a ≡ b
+result_same f known (Ok x) (Ok y) h = ap Ok (known x y (ap (λ (a : Answer). a.values) h))
+result_same f known (Ok x) (Err e) h = not_done e _ h
+result_same f known (Err d) (Ok y) h = not_done d _ (sym h)
+result_same f known (Err d) (Err e) h = ap Err (refused_same d e h)
 
--- what a reply and the bytes at exit are known by
-abbrev pub seen : Reply × List ℕ → Outcome
+pub reply_same : (a b : Result ⊤ RingError) → answer_of a ≡ answer_of b → a ≡ b
+reply_same a b h = result_same (λ u. []) (λ x y e. refl) a b h
+
+-- what an answer and the bytes at exit are known by
+abbrev pub seen : Result ⊤ RingError × List ℕ → Outcome
 seen x = outcome (answer_of x.0) x.1
 
-pub seen_same : (x y : Reply × List ℕ) → seen x ≡ seen y → x ≡ y
+pub seen_same : (x y : Result ⊤ RingError × List ℕ) → seen x ≡ seen y → x ≡ y
 seen_same x y h i =
     (reply_same x.0 y.0 (ap (λ (o : Outcome). o.answer) h) i, ap (λ (o : Outcome). o.bytes) h i)

@@ -7,30 +7,30 @@ use mathlib.Core.List.{List, [], ◌∷◌, ◌++◌, append_assoc, append-nil}
 use mathlib.Core.Bool.{cond}
 use native.Mathlib.Omega.{arith}
 use native.Mathlib.Numerals.{add-one}
-use native.Mathlib.Nat.{add-zero, add-suc, suc-add}
 use lib.Dec.{leb}
 use lib.ListN.{length, get_or, take, drop, set, replicate, length-take, length-drop, length-replicate, drop_of_length-le}
-use lib.Seq.{sets, sets-eq, take-suc, length-take-le, drop-set-lt, drop-set-add, take-set-le, drop_at, take_at, get_or-take, get_or-drop, length-sets}
-use lib.Seq.{drop-cons}
+use lib.Seq.{sets, sets-eq, length-take-le, drop-set-lt, drop-set-add, take-set-le, drop_at, take_at, get_or-take, get_or-drop, length-sets}
+use lib.Seq.{drop-cons, drop-drop}
+use borrow.Rule.Slice.PartMut.{put_mid}
 use borrow.Author.Tests.{le-leb, lt-leb}
 use Rattle.base.specs.Answer.{outcome, done, refused}
 use Rattle.base.specs.Bytes.{put_of, get_of}
 use Rattle.base.proofs.Tests.{by_lt}
 
--- one store more at the end of a run
-sets_snoc : (vs l : List ℕ) (i a : ℕ) → set (sets l i vs) (i + length vs) a ≡ sets l i (vs ++ (a ∷ []))
-sets_snoc [] l i a = ap (λ (k : ℕ). set l k a) (add-zero i)
-sets_snoc (v ∷ vs) l i a =
-    ap (λ (k : ℕ). set (sets (set l i v) (suc i) vs) k a) (add-suc i (length vs) ∙ sym (suc-add i (length vs)))
-    ∙ sets_snoc vs (set l i v) (suc i) a
+-- the elements of a part, copied over or filled, are stores one after the other
+pub pasted : {A : Type 0} (vs l : List A) (i n : ℕ) → n ≡ length vs → i + length vs ≤ length l → put_mid i n l vs ≡ sets l i vs
+pasted vs l i n e h =
+    ap (λ (p : List _). take i l ++ (vs ++ p)) (drop-drop n i l ∙ ap (λ (k : ℕ). drop (i + k) l) e)
+    ∙ sym (append_assoc (take i l) vs (drop (i + length vs) l))
+    ∙ sym (sets-eq vs l i h)
 
-pub sets_more :
-    (vs l : List ℕ) (i k : ℕ) → k < length vs
-    → set (sets l i (take k vs)) (i + k) (get_or vs k 0) ≡ sets l i (take (k + 1) vs)
-sets_more vs l i k h =
-    ap (λ (n : ℕ). set (sets l i (take k vs)) (i + n) (get_or vs k 0)) (sym (length-take-le k vs (omega arith)))
-    ∙ sets_snoc (take k vs) l i (get_or vs k 0)
-    ∙ ap (sets l i) (sym (ap (λ (n : ℕ). take n vs) (add-one k) ∙ take-suc vs k 0 h))
+pub filled :
+    {A : Type 0} (v : A) (l : List A) (i k n : ℕ) → k ≡ n → i + n ≤ length l
+    → put_mid i k l (replicate (length (take k (drop i l))) v) ≡ sets l i (replicate n v)
+filled v l i k n e h =
+    let there : i + length (replicate n v) ≤ length l = omega (arith, h, length-replicate n v) in
+    ap (λ (m : ℕ). put_mid i k l (replicate m v)) (length-take-le k (drop i l) (omega (arith, length-drop i l)) ∙ e)
+    ∙ pasted (replicate n v) l i k (omega (arith, e, length-replicate n v)) there
 
 -- a part behind the stores, a part before them, and the part itself
 part_after : (vs l : List ℕ) (i n j : ℕ) → i + length vs ≤ j → take n (drop j (sets l i vs)) ≡ take n (drop j l)
@@ -111,3 +111,16 @@ get_length l i n =
     by_lt (length l) (i + n)
     (λ h. ap length (get_short l i n h) ∙ length-replicate n 0)
     (λ h. ap length (get_fits l i n h) ∙ part_length l i n h)
+
+-- the first n bytes of what is left from a place on, and zeros where there are fewer
+pub left_whole : (l rest : List ℕ) (i n : ℕ) → rest ≡ drop i l → n ≤ length rest → take n rest ≡ get_of l i n
+left_whole l rest i n e h =
+    let m : length rest ≡ length l - i = ap length e ∙ length-drop i l in
+    by_lt (length l) (i + n)
+    (λ p.
+    let z : n ≡ 0 = omega arith in
+    ap (λ (k : ℕ). take k rest) z ∙ ap (λ (k : ℕ). replicate k 0) (sym z) ∙ sym (get_short l i n p))
+    (λ p. ap (take n) e ∙ sym (get_fits l i n p))
+
+pub left_short : (l rest : List ℕ) (i n : ℕ) → rest ≡ drop i l → length rest < n → replicate n 0 ≡ get_of l i n
+left_short l rest i n e h = sym (get_short l i n (omega (arith, ap length e, length-drop i l)))

@@ -4,9 +4,9 @@ use Prim.Native.Nat.{ℕ, zero, suc, ◌+◌, ◌*◌, ◌/◌, ◌%◌, ◌^◌
 use mathlib.Core.Path.{◌≡◌, refl, sym, ◌∙◌, ap, ap₂}
 use mathlib.Core.List.{List, [], ◌∷◌, ◌++◌}
 use native.Mathlib.Omega.{arith}
-use native.Mathlib.Nat.{suc-add, pow-suc, div-lt_iff_lt-mul}
+use native.Mathlib.Nat.{add-zero, add-suc, suc-add, pow-suc, div-lt_iff_lt-mul}
 use lib.ListN.{length, get_or, take, drop}
-use lib.Seq.{drop-cons}
+use lib.Seq.{drop-cons, get_or-drop}
 use Rattle.base.specs.Bytes.{bytes_of, word_at}
 
 pub length_bytes : (k n : ℕ) → length (bytes_of k n) ≡ k
@@ -26,6 +26,19 @@ word_after (p ∷ ps) bs i k =
     ap (λ (n : ℕ). word_at (p ∷ (ps ++ bs)) n k) (suc-add (length ps) i)
     ∙ word_shift p (ps ++ bs) (length ps + i) k
     ∙ word_after ps bs i k
+
+-- a word of what is left from a place on is the word at that place
+word_drop : (l : List ℕ) (k i w : ℕ) → word_at (drop k l) i w ≡ word_at l (k + i) w
+unfolding word_at
+word_drop l k i zero = refl
+word_drop l k i (suc w) =
+    ap₂ (λ (x y : ℕ). x + 256 * y)
+    (get_or-drop k l i 0)
+    (word_drop l k (suc i) w ∙ ap (λ (j : ℕ). word_at l j w) (add-suc k i))
+
+pub word_from : (s t : List ℕ) (k w : ℕ) → t ≡ drop k s → word_at s k w ≡ word_at t 0 w
+word_from s t k w e =
+    ap (λ (j : ℕ). word_at s j w) (sym (add-zero k)) ∙ sym (word_drop s k 0 w) ∙ ap (λ (l : List ℕ). word_at l 0 w) (sym e)
 
 -- the word of the bytes of n is n
 pub word_bytes : (k n : ℕ) (rest : List ℕ) → n < 256 ^ k → word_at (bytes_of k n ++ rest) 0 k ≡ n

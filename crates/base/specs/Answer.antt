@@ -1,7 +1,6 @@
 -- What a call answers, in document 01's terms: "a definition gives, for each of its cases, this paper's number and values".
-use Rattle.std.specs.Prelude.{ℕ, List, [], Bool, cond, eqb}
-use Rattle.base.specs.declared.Reply.{Reply}
-use Rattle.base.specs.declared.Reply.TheVariants.{Done, Refused}
+use Rattle.std.specs.Prelude.{ℕ, List, [], Bool, cond, eqb, Result, Ok, Err, ⊤}
+use Rattle.base.specs.declared.RingError.{RingError}
 use Rattle.base.specs.Refusals.{number_of}
 
 -- number 0 is success, 1 to 9 are the refusals; the values are those that a caller reads off the answer
@@ -25,10 +24,19 @@ valued vs a = cond (eqb a.number 0) (done vs) a
 abbrev pub bit : Bool → ℕ
 bit b = cond b 1 0
 
+-- the answer of a call: a success with the values that `f` reads off what it hands back, or the refusal's number alone
+abbrev pub answer_by : {A : Type 0} → (A → List ℕ) → Result A RingError → Answer
+answer_by f (Ok x) = done (f x)
+answer_by f (Err e) = refused (number_of e)
+
 -- the answer of a call that has nothing to hand back
-abbrev pub answer_of : Reply → Answer
-answer_of Done = done []
-answer_of (Refused e) = refused (number_of e)
+abbrev pub answer_of : Result ⊤ RingError → Answer
+answer_of r = answer_by (λ u. []) r
+
+-- the number of what is refused, and 0 where nothing is
+abbrev pub refusal : Result ⊤ RingError → ℕ
+refusal (Ok u) = 0
+refusal (Err e) = number_of e
 
 -- what a call leaves that was lent bytes: its answer and the bytes at exit
 pub record Outcome : Type 0 where

@@ -1,66 +1,113 @@
 // Little-endian words, and runs of bytes in a lent slice.
-ghost use Rattle.std.specs.Prelude.{◌≡◌, [], ◌∷◌, length, replicate, ◌+◌, ◌*◌, ◌^◌, ◌≤◌};
-ghost use Rattle.std.proofs.lemmas.List.Edits.{sets};
+ghost use Rattle.std.specs.Prelude.{ℕ, ◌≡◌, drop, replicate};
 ghost use Rattle.base.specs.Answer.{outcome, answer_of};
-ghost use Rattle.base.specs.Bytes.{word_at, put_of};
+ghost use Rattle.base.specs.Bytes.{word_at, put_of, get_of};
 
-use crate::{Reply, RingError, pick};
+use crate::{RingError, pick};
 
-// Bytes are passed one by one, since a parameter's range is known and an array element's is not.
-pub fn word16(b0: u8, b1: u8) -> u16
-    ensures { result ≡ word_at (b0 ∷ b1 ∷ []) 0 2 }
-{
-    (b0 as u16) + 256 * (b1 as u16)
+// A number of so many bytes, the lowest first.
+pub trait Word: Copy + From<u16> {
+    ghost width: { ℕ };
+
+    // The word of a number.
+    ghost of: { ℕ → Self };
+
+    // The word from place `at` on. Past the end there are zeros.
+    fn read(s: &[u8], at: usize) -> Self
+        ensures { result ≡ of (word_at s.now at width) };
+
+    ghost from_same: { (n : ℕ) (x : Self) → Self.from_gives n x → x ≡ of n };
 }
 
-pub fn word32(b0: u8, b1: u8, b2: u8, b3: u8) -> u32
-    ensures { result ≡ word_at (b0 ∷ b1 ∷ b2 ∷ b3 ∷ []) 0 4 }
-{
-    (b0 as u32) + 256 * ((b1 as u32) + 256 * ((b2 as u32) + 256 * (b3 as u32)))
+impl Word for u16 {
+    ghost width = { 2 };
+
+    ghost of = { λ n. n };
+
+    ghost from_same = { λ n x e. e };
+
+    fn read(s: &[u8], at: usize) -> u16 {
+        let s = from(s, at);
+        u16::from_le_bytes([pick::at(s, 0, 0), pick::at(s, 1, 0)])
+    }
 }
 
-pub fn word64(low: u32, high: u32) -> u64
-    ensures { result ≡ low + 256 ^ 4 * high }
-{
-    (low as u64) + 4294967296 * (high as u64)
+impl Word for u32 {
+    ghost width = { 4 };
+
+    ghost of = { λ n. n };
+
+    ghost from_same = { λ n x e. e };
+
+    fn read(s: &[u8], at: usize) -> u32 {
+        let s = from(s, at);
+        u32::from_le_bytes([
+            pick::at(s, 0, 0),
+            pick::at(s, 1, 0),
+            pick::at(s, 2, 0),
+            pick::at(s, 3, 0),
+        ])
+    }
 }
 
-// The bytes b from place `at` on: one loop for every width that is stored.
-pub fn put(ring: &mut [u8], at: usize, b: &[u8]) -> Reply
+impl Word for u64 {
+    ghost width = { 8 };
+
+    ghost of = { λ n. n };
+
+    ghost from_same = { λ n x e. e };
+
+    fn read(s: &[u8], at: usize) -> u64 {
+        let s = from(s, at);
+        u64::from_le_bytes([
+            pick::at(s, 0, 0),
+            pick::at(s, 1, 0),
+            pick::at(s, 2, 0),
+            pick::at(s, 3, 0),
+            pick::at(s, 4, 0),
+            pick::at(s, 5, 0),
+            pick::at(s, 6, 0),
+            pick::at(s, 7, 0),
+        ])
+    }
+}
+
+// What is left of a slice from a place on: nothing past its end.
+fn from(s: &[u8], at: usize) -> &[u8]
+    ensures { result.now ≡ drop at s.now }
+{
+    s.get(at..).unwrap_or_default()
+}
+
+// The N bytes from place `at` on; zeros where they are not whole in the slice.
+#[tactic(auto, using(crate::proofs::Runs::get_fits, crate::proofs::Runs::get_short))]
+pub fn get<const N: usize>(s: &[u8], at: usize) -> [u8; N]
+    ensures { result ≡ get_of s.now at N }
+{
+    match from(s, at).first_chunk::<N>() {
+        Some(bytes) => *bytes,
+        None => [0; N],
+    }
+}
+
+// The bytes b from place `at` on, whatever their number.
+pub fn put(ring: &mut [u8], at: usize, b: &[u8]) -> Result<(), RingError>
     ensures { outcome (answer_of result) ring.new ≡ put_of ring.old at b.now }
 {
-    if pick::ends_by(at, b.len(), ring.len()) {
-        copy(ring, at, b);
-        return Reply::Done;
+    if !pick::ends_by(at, b.len(), ring.len()) {
+        return Err(RingError::BadLent);
     }
-    Reply::Refused(RingError::BadLent)
-}
-
-fn copy(ring: &mut [u8], at: usize, b: &[u8])
-    requires { at + length b.now ≤ length ring.old }
-    ensures { ring.new ≡ sets ring.old at b.now }
-{
-    for k in 0..b.len() {
-        ring[at + k] = b[k];
-    }
+    ring[at..at + b.len()].copy_from_slice(b);
+    Ok(())
 }
 
 // n zeros from place `at` on.
-pub fn zero(ring: &mut [u8], at: usize, n: usize) -> Reply
+pub fn zero(ring: &mut [u8], at: usize, n: usize) -> Result<(), RingError>
     ensures { outcome (answer_of result) ring.new ≡ put_of ring.old at (replicate n 0) }
 {
-    if pick::ends_by(at, n, ring.len()) {
-        clear(ring, at, n);
-        return Reply::Done;
+    if !pick::ends_by(at, n, ring.len()) {
+        return Err(RingError::BadLent);
     }
-    Reply::Refused(RingError::BadLent)
-}
-
-fn clear(ring: &mut [u8], at: usize, n: usize)
-    requires { at + n ≤ length ring.old }
-    ensures { ring.new ≡ sets ring.old at (replicate n 0) }
-{
-    for k in 0..n {
-        ring[at + k] = 0;
-    }
+    ring[at..at + n].fill(0);
+    Ok(())
 }

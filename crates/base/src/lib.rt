@@ -12,44 +12,27 @@ ghost use Rattle.base.specs.Refusals.{number_of, listed};
 
 // The Rust's names, without Bookkeeping and MemError (nothing is allocated and no memory call fails), and three of the
 // port's own, for what a caller hands in.
-#[derive(Clone, Copy)]
+#[derive(Clone, Copy, PartialEq, Eq)]
 pub enum RingError {
-    EmptyChain,
-    BadChain,
-    WouldBlock,
-    OutOfMemory,
-    InvalidState,
-    InvalidLayout,
-    BadRecord,
-    BadLent,
-    BadRollback,
-}
-
-// What a call answers that has nothing to hand back.
-#[derive(Clone, Copy)]
-pub enum Reply {
-    Done,
-    Refused(RingError),
+    EmptyChain = 1,
+    BadChain = 2,
+    WouldBlock = 3,
+    OutOfMemory = 4,
+    InvalidState = 5,
+    InvalidLayout = 6,
+    BadRecord = 7,
+    BadLent = 8,
+    BadRollback = 9,
 }
 
 impl RingError {
     pub fn number(self) -> u8
         ensures { result ≡ number_of self }
     {
-        match self {
-            RingError::EmptyChain => 1,
-            RingError::BadChain => 2,
-            RingError::WouldBlock => 3,
-            RingError::OutOfMemory => 4,
-            RingError::InvalidState => 5,
-            RingError::InvalidLayout => 6,
-            RingError::BadRecord => 7,
-            RingError::BadLent => 8,
-            RingError::BadRollback => 9,
-        }
+        self as u8
     }
 
-    // Tests of refusals are numbers, which need no branches; here a number gets its name back.
+    // The refusal of a number. One that no refusal has is taken for the last.
     pub fn numbered(number: u8) -> RingError
         ensures { number_of result ≡ listed number }
     {

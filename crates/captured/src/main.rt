@@ -8,42 +8,32 @@ use event::EventSuppression;
 use say::{either, number, words};
 
 fn main() {
+    // A buffer of fixed size and how much of it was read: programs have no heap.
     let mut input = io::buffer();
     let n = io::read_full(0, &mut input);
-    if say::are_records(&input[..n], 17, b"SE") {
-        show_all(&input, n);
+    let records = &input[..n];
+    if say::are_records(records, 17, b"SE") {
+        for record in records.chunks_exact(17) {
+            show(record);
+        }
     } else {
         words(b"bad\n");
     }
 }
 
-fn show_all(input: &[u8], n: usize) {
-    for i in 0..240 {
-        let at = 17 * i;
-        if at < n {
-            show(input, at);
-        }
+fn show(record: &[u8]) {
+    match record {
+        [b'S', bytes @ ..] => slot(Descriptor::decode(desc::load(bytes, 0))),
+        [_, bytes @ ..] => area(EventSuppression::read(bytes, 0)),
+        [] => {}
     }
-}
-
-fn show(input: &[u8], at: usize) {
-    let behind = std::num::wrapping_add_usize(at, 1);
-    if letter(input, at) == b'S' {
-        slot(Descriptor::decode(desc::load(input, behind)));
-    } else {
-        area(EventSuppression::read(input, behind));
-    }
-}
-
-fn letter(input: &[u8], at: usize) -> u8 {
-    if at < input.len() { input[at] } else { 0 }
 }
 
 // slot ADDRESS LENGTH ID, readable or writable, next or last, and the one round in which it is available or used.
 fn slot(d: Descriptor) {
     number(b"slot ", d.addr);
-    number(b" ", d.len as u64);
-    number(b" ", d.id as u64);
+    number(b" ", u64::from(d.len));
+    number(b" ", u64::from(d.id));
     either(d.is_writable(), b" writable", b" readable");
     either(d.is_next(), b" next", b" last");
     either(d.is_indirect(), b" indirect", b"");
@@ -56,8 +46,8 @@ fn slot(d: Descriptor) {
 
 // event OFFSET WRAP FLAGS
 fn area(e: EventSuppression) {
-    number(b"event ", e.desc_event_off() as u64);
+    number(b"event ", u64::from(e.desc_event_off()));
     either(e.desc_event_wrap(), b" 1", b" 0");
-    number(b" ", e.flags() as u64);
+    number(b" ", u64::from(e.flags()));
     words(b"\n");
 }

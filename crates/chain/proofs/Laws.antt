@@ -3,17 +3,15 @@
 use Prim.Native.Nat.{ℕ, ◌+◌, ◌-◌, ◌*◌, ◌≤◌, ◌<◌}
 use mathlib.Core.Path.{◌≡◌, ap}
 use native.Mathlib.Omega.{arith}
-use mathlib.Core.List.{[]}
-use mathlib.Core.Bool.{true, false, not}
+use mathlib.Core.Bool.{false, not}
 use lib.Dec.{eqb}
 use lib.ListN.{length, take}
 use borrow.Author.Tests.{le-leb, lt-leb, eqb-true, ltb-false, not-false}
-use Rattle.base.specs.Answer.{done, refused}
 use Rattle.base.specs.Part.{Slice, slice, part}
 use Rattle.base.proofs.Tests.{neither}
-use Rattle.chain.specs.Chain.{empty_end, readables_of, writables_of, bad_slices, check_of}
+use Rattle.chain.specs.Chain.{empty_end, readables_of, writables_of, bad_slices}
 
-module _ (w n : ℕ) (s : Slice) where
+module _ {A : Type 0} (w n : ℕ) (s : Slice A) where
   -- the first part begins where the slice does, and a part of no length is the empty end
   first : slice s.place (take n s.elements) ≡ part w 0 n s
   first =
@@ -44,16 +42,6 @@ module _ (w n : ℕ) (s : Slice) where
       → part w (length s.elements) (length s.elements - length s.elements) s ≡ writables_of w n s
   unfolding writables_of
   none_writable h = simp (lt-leb n (length s.elements) h) last
-
--- the check, exit by exit
-module _ (addrs lens readable : ℕ) where
-  pub check_refused : bad_slices addrs lens readable ≡ true → check_of addrs lens readable ≡ refused 8
-  unfolding check_of
-  check_refused e = simp e
-
-  pub check_done : bad_slices addrs lens readable ≡ false → check_of addrs lens readable ≡ done []
-  unfolding check_of
-  check_done e = simp e
 
 -- what a chain that is not refused may count on
 pub record Good (addrs lens readable : ℕ) : Type 0 where

@@ -4,16 +4,16 @@ use Rattle.base.specs.Answer.{Answer, done, refused}
 use Rattle.base.specs.Part.{Slice, part}
 
 -- no elements, behind the last one
-abbrev pub empty_end : ℕ → Slice → Slice
+abbrev pub empty_end : {A : Type 0} → ℕ → Slice A → Slice A
 empty_end w s = part w (length s.elements) 0 s
 
 -- "`readables` and `writables` hand back a part of one slice, or its empty end where the count passes its length"; w is the
 -- width of an element in bytes
-unfoldable pub readables_of : ℕ → ℕ → Slice → Slice
+unfoldable pub readables_of : {A : Type 0} → ℕ → ℕ → Slice A → Slice A
 readables_of w n s = cond (leb n (length s.elements)) (part w 0 n s) (empty_end w s)
 
 -- what is left behind the readable part
-unfoldable pub writables_of : ℕ → ℕ → Slice → Slice
+unfoldable pub writables_of : {A : Type 0} → ℕ → ℕ → Slice A → Slice A
 writables_of w n s =
     cond (leb n (length s.elements)) (part w n (length s.elements - n) s) (empty_end w s)
 

@@ -1,13 +1,18 @@
 -- What a call that is not refused may count on, of its record and what it is lent.
 -- Assumes nothing.
 use Prim.Native.Nat.{ℕ, ◌≤◌, ◌<◌}
-use mathlib.Core.Path.{◌≡◌}
-use mathlib.Core.Bool.{false}
+use mathlib.Core.Path.{◌≡◌, sym, ap, ◌∙◌}
+use mathlib.Core.Bool.{false, cond}
 use native.Mathlib.Omega.{arith}
 use lib.Dec.{leb}
 use borrow.Author.Tests.{ltb-false, leb-false}
 use Rattle.base.proofs.Tests.{neither}
-use Rattle.base.proofs.Ladder.{both_passed, both_below}
+use Rattle.base.proofs.Ladder.{passed, both_passed}
+use Rattle.base.proofs.Refusals.{number_low}
+use Rattle.std.specs.Prelude.{Result, Ok, ⊤}
+use Rattle.base.specs.declared.RingError.{RingError}
+use Rattle.base.specs.Refusals.{number_of}
+use Rattle.base.specs.Answer.{refusal}
 use Rattle.layout.specs.Layout.{bad_layout, outside}
 use Rattle.layout.proofs.Laws.{Laid, laid, Within, within}
 use Rattle.consumer.specs.declared.RingConsumer.{RingConsumer}
@@ -68,10 +73,11 @@ lent_ready p bytes counts e =
     let h = both_passed (bad_record p) (bad_lent p bytes counts) 0 e in
     record { sound = sound p h.0; lent = lent p bytes counts h.1.0 }
 
-pub bytes_below : (p : RingConsumer) (bytes : ℕ) → bytes_refusal p bytes < 9
-unfolding bytes_refusal
-bytes_below p bytes = both_below (bad_record p) (outside p.layout bytes) 0 (omega arith)
+-- a record that is not refused is sound
+pub record_sound : (p : RingConsumer) (r : Result ⊤ RingError) (u : ⊤) → r ≡ Ok u → refusal r ≡ cond (bad_record p) 7 0 → Sound p
+record_sound p r u e f = sound p (passed (bad_record p) 7 0 (omega arith) (sym f ∙ ap refusal e)).0
 
-pub lent_below : (p : RingConsumer) (bytes counts : ℕ) → lent_refusal p bytes counts < 9
-unfolding lent_refusal
-lent_below p bytes counts = both_below (bad_record p) (bad_lent p bytes counts) 0 (omega arith)
+-- a call's exit by a refusal, of which n is the number: `why` says what the definition gives where that is not 0
+pub by_error :
+    {A : Type 0} (f : ℕ → A) (y : A) (e : RingError) (n : ℕ) → number_of e ≡ n → ((n ≡ 0 → ⊥) → y ≡ f n) → f (number_of e) ≡ y
+by_error f y e n h why = ap f h ∙ sym (why (λ z. omega (arith, h, z, number_low e)))

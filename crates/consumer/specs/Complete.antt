@@ -1,15 +1,13 @@
 -- A completion (document 01, "What each end does", Consumer, and Notify).
-use Rattle.std.specs.Prelude.{ℕ, ◌-◌, List, [], ◌∷◌, cond, ◌||◌, ltb, leb, eqb, length, get_or, set}
-use Rattle.base.specs.Refusals.{number_of}
-use Rattle.base.specs.Answer.{Answer, done, refused, valued, bit}
+use Rattle.std.specs.Prelude.{ℕ, ◌-◌, List, [], ◌∷◌, Bool, cond, ◌||◌, ltb, leb, eqb, length, get_or, set, Result}
+use Rattle.base.specs.declared.RingError.{RingError}
+use Rattle.base.specs.Answer.{Answer, done, refused, valued, bit, answer_by}
 use Rattle.cursor.specs.declared.RingCursor.{RingCursor}
 use Rattle.cursor.specs.Cursor.{steps}
 use Rattle.desc.specs.Desc.{descriptor, mark_used}
 use Rattle.ring.specs.Slots.{slot_put}
 use Rattle.ring.specs.Events.{told}
 use Rattle.consumer.specs.declared.RingConsumer.{RingConsumer}
-use Rattle.consumer.specs.declared.CompletedTold.{CompletedTold}
-use Rattle.consumer.specs.declared.CompletedTold.TheVariants.{Notify, Refused}
 use Rattle.consumer.specs.Record.{bad_record, bad_lent}
 use Rattle.consumer.specs.Outcome.{Outcome, outcome}
 
@@ -51,11 +49,6 @@ tell_of old o =
     let yes = told o.end.layout.driver o.end.layout.size old o.end.used o.ring in
     outcome (valued (bit yes ∷ []) o.answer) o.end o.ring o.counts
 
--- the answer's cases, in the paper's number and values, and the record that each hands back
-abbrev pub told_answer : CompletedTold → Answer
-told_answer (Notify b p) = done (bit b ∷ [])
-told_answer (Refused e p) = refused (number_of e)
-
-abbrev pub told_record : CompletedTold → RingConsumer
-told_record (Notify b p) = p
-told_record (Refused e p) = p
+-- the answer, in the paper's number and values
+abbrev pub told_answer : Result Bool RingError → Answer
+told_answer r = answer_by (λ b. bit b ∷ []) r

@@ -1,16 +1,14 @@
 -- Opening and reset (document 01, "What each end does").
-use Rattle.std.specs.Prelude.{ℕ, List, [], ◌∷◌, cond, ◌||◌, ltb, eqb, length, replicate}
+use Rattle.std.specs.Prelude.{ℕ, List, [], ◌∷◌, cond, ◌||◌, ltb, eqb, length, replicate, Result}
 use Rattle.std.proofs.lemmas.List.Edits.{sets}
-use Rattle.base.specs.Refusals.{number_of}
-use Rattle.base.specs.Answer.{Answer, done, refused, bit}
+use Rattle.base.specs.declared.RingError.{RingError}
+use Rattle.base.specs.Answer.{Answer, done, refused, bit, answer_by}
 use Rattle.base.specs.Bytes.{put_of}
 use Rattle.cursor.specs.Cursor.{fresh}
 use Rattle.event.specs.Event.{ENABLE, event, encode_of}
 use Rattle.layout.specs.declared.Layout.{Layout}
 use Rattle.layout.specs.Layout.{layout, bad_layout, outside}
 use Rattle.consumer.specs.declared.RingConsumer.{RingConsumer}
-use Rattle.consumer.specs.declared.Opened.{Opened}
-use Rattle.consumer.specs.declared.Opened.TheVariants.{Ring, Refused}
 use Rattle.consumer.specs.Record.{lent_refusal}
 use Rattle.consumer.specs.Outcome.{Outcome, outcome}
 
@@ -49,10 +47,9 @@ open_of size table driver device ring counts =
     (cond (ltb (length counts) size) (opened (refused 8) counts)
     (opened (done (record_values (fresh_of l))) (sets counts 0 (replicate size 0))))
 
--- the answer's cases, in the paper's number and values: a refused opening "gives the number alone"
-abbrev pub opened_answer : Opened → Answer
-opened_answer (Ring p) = done (record_values p)
-opened_answer (Refused e) = refused (number_of e)
+-- the answer, in the paper's number and values: a refused opening "gives the number alone"
+abbrev pub opened_answer : Result RingConsumer RingError → Answer
+opened_answer r = answer_by record_values r
 
 -- "Its reset zeroes only the device event."
 abbrev pub zeroed_of : Layout → List ℕ → List ℕ

@@ -1,10 +1,7 @@
 -- What a call of the consumer leaves: its answer, the record, and what it was lent.
-use Rattle.std.specs.Prelude.{ℕ, List, []}
-use Rattle.base.specs.Refusals.{number_of}
-use Rattle.base.specs.Answer.{Answer, done, refused}
+use Rattle.std.specs.Prelude.{ℕ, List}
+use Rattle.base.specs.Answer.{Answer}
 use Rattle.consumer.specs.declared.RingConsumer.{RingConsumer}
-use Rattle.consumer.specs.declared.Answered.{Answered}
-use Rattle.consumer.specs.declared.Answered.TheVariants.{Done, Refused}
 
 -- of a call that is lent the bytes and the counts
 pub record Outcome : Type 0 where
@@ -33,12 +30,3 @@ pub record Rolled : Type 0 where
 
 abbrev pub rolled : Answer → RingConsumer → List ℕ → Rolled
 rolled a p k = record { answer = a; end = p; counts = k }
-
--- the cases of an answer that has nothing to hand back, in the paper's number and values, and the record that each hands back
-abbrev pub answer_of : Answered → Answer
-answer_of (Done p) = done []
-answer_of (Refused e p) = refused (number_of e)
-
-abbrev pub record_of : Answered → RingConsumer
-record_of (Done p) = p
-record_of (Refused e p) = p

@@ -1,8 +1,8 @@
 -- A chain polled, and whether there is one (document 01, "What each end does", Consumer).
-use Rattle.std.specs.Prelude.{ℕ, ◌+◌, List, [], ◌∷◌, map, not, cond, ◌||◌, ltb, leb, eqb, length, get_or, set}
+use Rattle.std.specs.Prelude.{ℕ, ◌+◌, List, [], ◌∷◌, map, not, cond, ◌||◌, ltb, leb, eqb, length, get_or, set, Result}
 use Rattle.std.proofs.lemmas.List.Edits.{sets}
-use Rattle.base.specs.Refusals.{number_of}
-use Rattle.base.specs.Answer.{Answer, done, refused, bit}
+use Rattle.base.specs.declared.RingError.{RingError}
+use Rattle.base.specs.Answer.{Answer, done, refused, bit, answer_by}
 use Rattle.cursor.specs.declared.RingCursor.{RingCursor}
 use Rattle.desc.specs.declared.Descriptor.{Descriptor}
 use Rattle.desc.specs.Flags.{is_avail}
@@ -10,8 +10,7 @@ use Rattle.ring.specs.Slots.{slot_of}
 use Rattle.walk.specs.declared.Walk.{Walk}
 use Rattle.walk.specs.Walk.{start, walk_of, slots_from, addr_of, len_of}
 use Rattle.consumer.specs.declared.RingConsumer.{RingConsumer}
-use Rattle.consumer.specs.declared.Polled.{Polled}
-use Rattle.consumer.specs.declared.Polled.TheVariants.{Chain, Refused}
+use Rattle.consumer.specs.declared.PolledChain.{PolledChain}
 use Rattle.consumer.specs.Record.{bad_record, bad_lent, bytes_refusal}
 
 -- what a poll leaves: its answer, the record, the counts and both outputs
@@ -83,14 +82,9 @@ poll_of p ring counts addrs lens =
     (polled_of p ring (head_of p ring).id (walked_of p ring) counts addrs lens)
     (taken (refused no) p counts addrs lens)
 
--- the answer's cases, in the paper's number and values, and the record that each hands back
-abbrev pub polled_answer : Polled → Answer
-polled_answer (Chain c p) = done (c.id ∷ c.count ∷ c.readable ∷ [])
-polled_answer (Refused e p) = refused (number_of e)
-
-abbrev pub polled_record : Polled → RingConsumer
-polled_record (Chain c p) = p
-polled_record (Refused e p) = p
+-- the answer, in the paper's number and values
+abbrev pub polled_answer : Result PolledChain RingError → Answer
+polled_answer r = answer_by (λ c. c.id ∷ c.count ∷ c.readable ∷ []) r
 
 -- peek_available, "7, 8 for all else": whether the slot that a poll would look at is available
 unfoldable pub peek_of : RingConsumer → List ℕ → Answer

@@ -1,15 +1,13 @@
 -- Checkpoints and rollbacks (document 01, "When the ring says no", Rollback).
-use Rattle.std.specs.Prelude.{ℕ, ◌+◌, List, [], ◌∷◌, Bool, not, cond, ◌||◌, ◌&&◌, ltb, leb, eqb, length}
+use Rattle.std.specs.Prelude.{ℕ, ◌+◌, List, [], ◌∷◌, Bool, not, cond, ◌||◌, ◌&&◌, ltb, leb, eqb, length, Result}
 use Rattle.std.specs.Bool.{beq}
-use Rattle.base.specs.Refusals.{number_of}
-use Rattle.base.specs.Answer.{Answer, done, refused, bit}
+use Rattle.base.specs.declared.RingError.{RingError}
+use Rattle.base.specs.Answer.{Answer, done, refused, bit, answer_by}
 use Rattle.cursor.specs.declared.RingCursor.{RingCursor}
 use Rattle.cursor.specs.Cursor.{steps}
 use Rattle.undo.specs.Undo.{bad_ids, total_of, cleared_of}
 use Rattle.consumer.specs.declared.RingConsumer.{RingConsumer}
 use Rattle.consumer.specs.declared.Checkpoint.{Checkpoint}
-use Rattle.consumer.specs.declared.Checkpointed.{Checkpointed}
-use Rattle.consumer.specs.declared.Checkpointed.TheVariants.{At, Refused}
 use Rattle.consumer.specs.Record.{bad_record}
 use Rattle.consumer.specs.Outcome.{Rolled, rolled}
 
@@ -22,10 +20,9 @@ abbrev pub checkpoint_values : Checkpoint → List ℕ
 checkpoint_values cp =
     cp.avail.head ∷ bit cp.avail.wrap ∷ cp.used.head ∷ bit cp.used.wrap ∷ cp.inflight ∷ []
 
--- the answer's cases, in the paper's number and values
-abbrev pub checkpoint_answer : Checkpointed → Answer
-checkpoint_answer (At cp) = done (checkpoint_values cp)
-checkpoint_answer (Refused e) = refused (number_of e)
+-- the answer, in the paper's number and values
+abbrev pub checkpoint_answer : Result Checkpoint RingError → Answer
+checkpoint_answer r = answer_by checkpoint_values r
 
 -- 7 also for "a head not below the size, also in an old cursor or checkpoint that is handed in"; 8 for counts shorter than the
 -- size; then the rest

@@ -4,6 +4,8 @@ use Prim.Native.Nat.{ℕ, zero, suc, ◌+◌, ◌-◌, ◌*◌, ◌≤◌, ◌<�
 use mathlib.Core.Path.{◌≡◌, refl, sym, ◌∙◌, ap}
 use mathlib.Core.Bool.{Bool, true, false, not}
 use native.Mathlib.Omega.{arith}
+use Rattle.std.proofs.Math.Bool.{not-not}
+use Rattle.std.proofs.lemmas.Bool.{true≢false}
 use native.Mathlib.Nat.{add-zero, zero-add, suc-add}
 use borrow.Author.Tests.{lt-ltb, le-ltb}
 use Rattle.base.proofs.Tests.{by_lt}
@@ -73,13 +75,9 @@ lands size n c b e =
     steps_past size n c b (omega arith) (omega arith)
     ∙ ap (λ (x : ℕ). at x (not c.wrap)) (omega arith)
 
-not_not : (b : Bool) → not (not b) ≡ b
-not_not true = refl
-not_not false = refl
-
 not_same : (b : Bool) → not b ≡ b → ⊥
-not_same true e = let z : ◌≡◌ {A = ℕ} 0 1 = cc in omega arith
-not_same false e = let z : ◌≡◌ {A = ℕ} 0 1 = cc in omega arith
+not_same true e = true≢false (sym e)
+not_same false e = true≢false e
 
 -- once round: the same slot in the other round
 pub steps_round : (size : ℕ) (c : RingCursor) → c.head < size → steps size size c ≡ at c.head (not c.wrap)
@@ -94,7 +92,7 @@ steps_twice size c b =
     ∙ steps_add size size size c
     ∙ ap (steps size size) (steps_round size c b)
     ∙ steps_round size (at c.head (not c.wrap)) b
-    ∙ ap (at c.head) (not_not c.wrap)
+    ∙ ap (at c.head) (not-not c.wrap)
 
 -- and no fewer do
 short_move : (size n : ℕ) (c : RingCursor) (w : Bool) → c.head < size → 0 < n → n < size → (steps size n (at c.head w)).head ≡ c.head → ⊥

@@ -2,11 +2,11 @@
 -- Assumes nothing.
 use Prim.Native.Nat.{ℕ, ◌≤◌, ◌<◌}
 use mathlib.Core.Path.{◌≡◌}
-use mathlib.Core.Bool.{true, false}
+use mathlib.Core.Bool.{false}
 use native.Mathlib.Omega.{arith}
 use lib.Dec.{ltb, leb, eqb}
 use borrow.Author.Tests.{ne_eqb, le-ltb, lt-leb, eqb-false, ltb-false, leb-false}
-use Rattle.base.specs.Answer.{done, refused}
+use Rattle.base.specs.Answer.{done}
 use Rattle.base.proofs.Tests.{neither, positive}
 use Rattle.cursor.specs.declared.RingCursor.{RingCursor}
 use Rattle.cursor.specs.Cursor.{steps, bad_move, values_of, outcome, advance_of}
@@ -42,7 +42,3 @@ pub advance_ready :
     → advance_of size n c ≡ outcome (done (values_of (steps size n c))) (steps size n c)
 unfolding advance_of
 advance_ready size n c r = simp (ready_not_bad size n c r)
-
-pub advance_refused : (size n : ℕ) (c : RingCursor) → bad_move size n c ≡ true → advance_of size n c ≡ outcome (refused 7) c
-unfolding advance_of
-advance_refused size n c e = simp e

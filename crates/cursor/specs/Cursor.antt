@@ -1,10 +1,8 @@
 -- A cursor of the ring (document 01, "Slots, flags and cursors"; VIRTIO 1.1, 2.7.1).
-use Rattle.std.specs.Prelude.{ℕ, zero, suc, ◌+◌, List, [], ◌∷◌, Bool, true, not, cond, ◌||◌, ltb, leb, eqb}
-use Rattle.base.specs.Refusals.{number_of}
-use Rattle.base.specs.Answer.{Answer, done, refused, bit}
+use Rattle.std.specs.Prelude.{ℕ, zero, suc, ◌+◌, List, [], ◌∷◌, Bool, true, not, cond, ◌||◌, ltb, leb, eqb, Result, ⊤}
+use Rattle.base.specs.declared.RingError.{RingError}
+use Rattle.base.specs.Answer.{Answer, done, refused, bit, answer_by}
 use Rattle.cursor.specs.declared.RingCursor.{RingCursor}
-use Rattle.cursor.specs.declared.Advanced.{Advanced}
-use Rattle.cursor.specs.declared.Advanced.TheVariants.{To, Refused}
 
 -- "A cursor is (head, wrap)"
 abbrev pub at : ℕ → Bool → RingCursor
@@ -47,11 +45,6 @@ advance_of size n c =
     (outcome (refused 7) c)
     (outcome (done (values_of (steps size n c))) (steps size n c))
 
--- the answer's cases, in the paper's number and values, and the cursor that each hands back
-abbrev pub answer_of : Advanced → Answer
-answer_of (To c) = done (values_of c)
-answer_of (Refused e c) = refused (number_of e)
-
-abbrev pub cursor_of : Advanced → RingCursor
-cursor_of (To c) = c
-cursor_of (Refused e c) = c
+-- what a move hands back, the cursor that is left and whether it was refused, in the paper's number and values
+abbrev pub answer_of : RingCursor × Result ⊤ RingError → Answer
+answer_of r = answer_by (λ u. values_of r.0) r.1

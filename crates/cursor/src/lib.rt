@@ -5,21 +5,14 @@
 #![tactic(auto)]
 
 ghost use Rattle.std.specs.Prelude.{◌≡◌, false};
-ghost use Rattle.cursor.specs.Cursor.{fresh, step, steps, bad_move, outcome, answer_of, cursor_of, advance_of};
+ghost use Rattle.cursor.specs.Cursor.{fresh, step, steps, bad_move, outcome, answer_of, advance_of};
 
 use base::RingError;
 
-#[derive(Clone, Copy)]
+#[derive(Clone, Copy, PartialEq, Eq)]
 pub struct RingCursor {
     pub head: u16,
     pub wrap: bool,
-}
-
-// What a move answers that is called alone.
-#[derive(Clone, Copy)]
-pub enum Advanced {
-    To(RingCursor),
-    Refused(RingError, RingCursor),
 }
 
 impl RingCursor {
@@ -32,34 +25,33 @@ impl RingCursor {
         }
     }
 
-    // To the next slot.
-    pub fn advance(self, size: u16) -> Advanced
-        ensures { outcome (answer_of result) (cursor_of result) ≡ advance_of size 1 self }
+    // To the next slot: the cursor that is left, and the answer.
+    pub fn advance(self, size: u16) -> (RingCursor, Result<(), RingError>)
+        ensures { outcome (answer_of result) result.0 ≡ advance_of size 1 self }
     {
-        if self.refuses(size, 1) {
-            return Advanced::Refused(RingError::BadRecord, self);
-        }
-        Advanced::To(self.stepped(size))
+        self.advance_by(size, 1)
     }
 
     // By n slots.
-    pub fn advance_by(self, size: u16, n: u16) -> Advanced
-        ensures { outcome (answer_of result) (cursor_of result) ≡ advance_of size n self }
+    #[tactic(auto, unfolding(crate::specs::Cursor::advance_of))]
+    pub fn advance_by(self, size: u16, n: u16) -> (RingCursor, Result<(), RingError>)
+        ensures { outcome (answer_of result) result.0 ≡ advance_of size n self }
     {
         if self.refuses(size, n) {
-            return Advanced::Refused(RingError::BadRecord, self);
+            return (self, Err(RingError::BadRecord));
         }
-        Advanced::To(self.divided(size, n))
+        (self.divided(size, n), Ok(()))
     }
 
     // The next slot's cursor, for an end whose record was tested as a whole: it has nothing to refuse any more.
+    #[tactic(auto, unfolding(crate::specs::Cursor::step))]
     pub fn stepped(self, size: u16) -> RingCursor
         ensures { result ≡ step size self }
     {
-        if (self.head as u32) + 1 < size as u32 {
+        if u32::from(self.head) + 1 < u32::from(size) {
             return RingCursor {
                 head: self.head + 1,
-                wrap: self.wrap,
+                ..self
             };
         }
         RingCursor {
@@ -72,10 +64,7 @@ impl RingCursor {
     pub fn moved(self, size: u16, n: u16) -> RingCursor
         ensures { result ≡ (advance_of size n self).cursor }
     {
-        if self.refuses(size, n) {
-            return self;
-        }
-        self.divided(size, n)
+        self.advance_by(size, n).0
     }
 
     pub fn head(self) -> u16
@@ -96,10 +85,11 @@ impl RingCursor {
         RingCursor::new()
     }
 
+    #[tactic(auto, unfolding(crate::specs::Cursor::bad_move))]
     fn refuses(self, size: u16, n: u16) -> bool
         ensures { result ≡ bad_move size n self }
     {
-        (size == 0) | ((32768 < size) | ((size <= self.head) | (size < n)))
+        size == 0 || 32768 < size || size <= self.head || size < n
     }
 
     // Both the slot and the round by division, as the Rust has it.
@@ -112,7 +102,7 @@ impl RingCursor {
         if wraps % 2 == 0 {
             return RingCursor {
                 head: new % size,
-                wrap: self.wrap,
+                ..self
             };
         }
         RingCursor {

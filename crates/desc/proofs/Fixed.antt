@@ -7,8 +7,7 @@ use Rattle.base.specs.Answer.{Answer}
 use Rattle.base.specs.Determined.{Determined, both}
 use Rattle.base.proofs.Determine.{by_equation, by_answer}
 use Rattle.base.proofs.Refusals.{seen, seen_same}
-use Rattle.desc.specs.declared.DescAddr.{DescAddr}
-use Rattle.desc.specs.declared.DescAddr.TheVariants.{At, Nowhere}
+use Rattle.std.specs.Prelude.{Option, Some, None}
 use Rattle.desc.specs.Table.{answer_of}
 use Rattle.desc.proofs.Descriptor.new.Reads as new
 use Rattle.desc.proofs.Descriptor.flags.Reads as flags
@@ -37,12 +36,12 @@ use Rattle.desc.proofs.DescTable.default_len.Reads as default_len
 value : ℕ → Answer → ℕ
 value i a = get_or a.values i 0
 
-place_same : (x y : DescAddr) → answer_of x ≡ answer_of y → x ≡ y
+place_same : (x y : Option ℕ) → answer_of x ≡ answer_of y → x ≡ y
 unfolding value
-place_same (At p) (At q) h = ap At (ap (value 1) h)
-place_same (At p) Nowhere h = absurd (omega (arith, ap (value 0) h))
-place_same Nowhere (At q) h = absurd (omega (arith, ap (value 0) h))
-place_same Nowhere Nowhere h = refl
+place_same (Some p) (Some q) h = ap Some (ap (value 1) h)
+place_same (Some p) None h = absurd (omega (arith, ap (value 0) h))
+place_same None (Some q) h = absurd (omega (arith, ap (value 0) h))
+place_same None None h = refl
 
 pub new_fixed : Determined new.Post (λ r s. r)
 new_fixed = by_equation _ _ _ (λ κ a r s p. p)

@@ -1,3 +1,4 @@
 pub mod Flags
 pub mod Trips
+pub mod Masks
 pub mod Fixed

@@ -12,8 +12,9 @@ ghost use Rattle.desc.specs.Desc.{descriptor, encode_of, decode_of, mark_avail, 
 ghost use Rattle.desc.specs.Table.{table, desc_addr_of};
 ghost use Rattle.desc.specs.Table as places;
 
-use base::{Reply, RingError, bytes, pick};
+use base::{RingError, bytes, pick};
 
+// Plain 16-bit numbers, as document 01 asks of every flag ("`bitflags`: plain 16-bit numbers").
 pub const NEXT: u16 = 1;
 
 pub const WRITE: u16 = 2;
@@ -24,7 +25,7 @@ pub const AVAIL: u16 = 128;
 
 pub const USED: u16 = 32768;
 
-#[derive(Clone, Copy)]
+#[derive(Clone, Copy, PartialEq, Eq)]
 pub struct Descriptor {
     pub addr: u64,
     pub len: u32,
@@ -34,28 +35,31 @@ pub struct Descriptor {
 
 // Did the driver make a slot with these flags available in the round `wrap`? AVAIL alone does not tell: a used slot
 // of round true has it too.
+#[tactic(auto, using(crate::proofs::Masks::has_avail, crate::proofs::Masks::has_used), unfolding(crate::specs::Flags::is_avail))]
 pub fn is_avail(flags: u16, wrap: bool) -> bool
     ensures { result ≡ is_avail flags wrap }
 {
-    let avail = flags / AVAIL % 2 == 1;
-    let used = flags / USED % 2 == 1;
-    (avail == wrap) & (used != wrap)
+    let avail = flags & AVAIL != 0;
+    let used = flags & USED != 0;
+    avail == wrap && used != wrap
 }
 
 // Did the device mark it used in the round `wrap`?
+#[tactic(auto, using(crate::proofs::Masks::has_avail, crate::proofs::Masks::has_used), unfolding(crate::specs::Flags::is_used))]
 pub fn is_used(flags: u16, wrap: bool) -> bool
     ensures { result ≡ is_used flags wrap }
 {
-    let avail = flags / AVAIL % 2 == 1;
-    let used = flags / USED % 2 == 1;
-    (avail == wrap) & (used == wrap)
+    let avail = flags & AVAIL != 0;
+    let used = flags & USED != 0;
+    avail == wrap && used == wrap
 }
 
-// Every bit but AVAIL and USED, by digits: a mask's bound would have to be proved bit by bit.
+// Every bit but AVAIL and USED.
+#[tactic(auto, using(crate::proofs::Masks::mask_others))]
 fn unmarked(flags: u16) -> u16
     ensures { result ≡ others flags }
 {
-    flags % 128 + flags / 256 % 128 * 256
+    flags & !(AVAIL | USED)
 }
 
 impl Descriptor {
@@ -71,11 +75,11 @@ impl Descriptor {
     }
 
     // The five flags that there are; the others are ignored.
+    #[tactic(auto, using(crate::proofs::Masks::mask_known))]
     pub fn flags(self) -> u16
         ensures { result ≡ known self.flags }
     {
-        let f = self.flags;
-        f % 8 + f / AVAIL % 2 * AVAIL + f / USED * USED
+        self.flags & (NEXT | WRITE | INDIRECT | AVAIL | USED)
     }
 
     pub fn is_avail(self, wrap: bool) -> bool
@@ -90,103 +94,76 @@ impl Descriptor {
         is_used(self.flags, wrap)
     }
 
+    #[tactic(auto, using(crate::proofs::Masks::has_write))]
     pub fn is_writable(self) -> bool
         ensures { result ≡ has self.flags WRITE }
     {
-        self.flags / WRITE % 2 == 1
+        self.flags & WRITE != 0
     }
 
+    #[tactic(auto, using(crate::proofs::Masks::has_next))]
     pub fn is_next(self) -> bool
         ensures { result ≡ has self.flags NEXT }
     {
-        self.flags / NEXT % 2 == 1
+        self.flags & NEXT != 0
     }
 
     // The Rust asks for INDIRECT where it polls; no table behind a descriptor is ever followed.
+    #[tactic(auto, using(crate::proofs::Masks::has_indirect))]
     pub fn is_indirect(self) -> bool
         ensures { result ≡ has self.flags INDIRECT }
     {
-        self.flags / INDIRECT % 2 == 1
+        self.flags & INDIRECT != 0
     }
 
+    #[tactic(auto, using(crate::proofs::Masks::marked_avail), unfolding(crate::specs::Desc::mark_avail))]
     pub fn mark_avail(self, wrap: bool) -> Descriptor
         ensures { result ≡ mark_avail self wrap }
     {
         Descriptor {
-            addr: self.addr,
-            len: self.len,
-            id: self.id,
-            flags: unmarked(self.flags) + pick::pick16(wrap, AVAIL, USED),
+            flags: unmarked(self.flags) | pick::pick(wrap, AVAIL, USED),
+            ..self
         }
     }
 
+    #[tactic(auto, using(crate::proofs::Masks::marked_used), unfolding(crate::specs::Desc::mark_used))]
     pub fn mark_used(self, wrap: bool) -> Descriptor
         ensures { result ≡ mark_used self wrap }
     {
         Descriptor {
-            addr: self.addr,
-            len: self.len,
-            id: self.id,
-            flags: unmarked(self.flags) + pick::pick16(wrap, AVAIL + USED, 0),
+            flags: unmarked(self.flags) | pick::pick(wrap, AVAIL | USED, 0),
+            ..self
         }
     }
 
     pub fn encode(self) -> [u8; 16]
         ensures { result ≡ encode_of self }
     {
-        let a0 = self.addr;
-        let a1 = a0 / 256;
-        let a2 = a1 / 256;
-        let a3 = a2 / 256;
-        let a4 = a3 / 256;
-        let a5 = a4 / 256;
-        let a6 = a5 / 256;
-        let a7 = a6 / 256;
-        let l0 = self.len;
-        let l1 = l0 / 256;
-        let l2 = l1 / 256;
-        let l3 = l2 / 256;
-        let i0 = self.id;
-        let i1 = i0 / 256;
-        let f0 = self.flags;
-        let f1 = f0 / 256;
+        let [a0, a1, a2, a3, a4, a5, a6, a7] = self.addr.to_le_bytes();
+        let [l0, l1, l2, l3] = self.len.to_le_bytes();
+        let [i0, i1] = self.id.to_le_bytes();
+        let [f0, f1] = self.flags.to_le_bytes();
         [
-            (a0 % 256) as u8,
-            (a1 % 256) as u8,
-            (a2 % 256) as u8,
-            (a3 % 256) as u8,
-            (a4 % 256) as u8,
-            (a5 % 256) as u8,
-            (a6 % 256) as u8,
-            (a7 % 256) as u8,
-            (l0 % 256) as u8,
-            (l1 % 256) as u8,
-            (l2 % 256) as u8,
-            (l3 % 256) as u8,
-            (i0 % 256) as u8,
-            (i1 % 256) as u8,
-            (f0 % 256) as u8,
-            (f1 % 256) as u8,
+            a0, a1, a2, a3, a4, a5, a6, a7, l0, l1, l2, l3, i0, i1, f0, f1,
         ]
     }
 
+    #[tactic(auto, unfolding(crate::specs::Desc::decode_of, base::specs::Bytes::word_at))]
     pub fn decode(b: [u8; 16]) -> Descriptor
         ensures { result ≡ decode_of b }
     {
         Descriptor {
-            addr: bytes::word64(
-                bytes::word32(b[0], b[1], b[2], b[3]),
-                bytes::word32(b[4], b[5], b[6], b[7]),
-            ),
-            len: bytes::word32(b[8], b[9], b[10], b[11]),
-            id: bytes::word16(b[12], b[13]),
-            flags: bytes::word16(b[14], b[15]),
+            addr: u64::from_le_bytes([b[0], b[1], b[2], b[3], b[4], b[5], b[6], b[7]]),
+            len: u32::from_le_bytes([b[8], b[9], b[10], b[11]]),
+            id: u16::from_le_bytes([b[12], b[13]]),
+            flags: u16::from_le_bytes([b[14], b[15]]),
         }
     }
 }
 
-// The sixteen bytes b into the slot at `at`. The flags are its last two bytes, so they are stored last.
-pub fn store(ring: &mut [u8], at: usize, b: [u8; 16]) -> Reply
+// The sixteen bytes b into the slot at `at`. The flags are its last two bytes; loads and stores are sequential here, so
+// that no order of the bytes within the slot is to be kept.
+pub fn store(ring: &mut [u8], at: usize, b: [u8; 16]) -> Result<(), RingError>
     ensures { outcome (answer_of result) ring.new ≡ put_of ring.old at b }
 {
     bytes::put(ring, at, &b)
@@ -196,28 +173,14 @@ pub fn store(ring: &mut [u8], at: usize, b: [u8; 16]) -> Reply
 pub fn load(ring: &[u8], at: usize) -> [u8; 16]
     ensures { result ≡ get_of ring.now at 16 }
 {
-    let mut b = [0u8; 16];
-    if pick::ends_by(at, 16, ring.len()) {
-        for k in 0..16 {
-            b[k] = ring[at + k];
-        }
-        return b;
-    }
-    b
+    bytes::get(ring, at)
 }
 
 // A table of `len` slots from `base_addr` of the lent bytes on.
-#[derive(Clone, Copy)]
+#[derive(Clone, Copy, PartialEq, Eq)]
 pub struct DescTable {
     pub base_addr: usize,
     pub len: usize,
-}
-
-// Where a slot is, if the table has it.
-#[derive(Clone, Copy)]
-pub enum DescAddr {
-    At(usize),
-    Nowhere,
 }
 
 impl DescTable {
@@ -229,26 +192,24 @@ impl DescTable {
         DescTable { base_addr, len }
     }
 
-    pub fn desc_addr(self, idx: u16) -> DescAddr
+    // Where a slot is, if the table has it.
+    #[tactic(auto, unfolding(crate::specs::Table::desc_addr_of))]
+    pub fn desc_addr(self, idx: u16) -> Option<usize>
         ensures { places.answer_of result ≡ desc_addr_of self idx }
     {
-        let base = self.base_addr;
-        let at = (idx as usize) * 16;
-        if self.len <= idx as usize {
-            return DescAddr::Nowhere;
+        let i = idx as usize;
+        if self.len <= i {
+            return None;
         }
-        if pick::ends_by(base, at, 18446744073709551615) {
-            return DescAddr::At(base + at);
-        }
-        DescAddr::Nowhere
+        self.base_addr.checked_add(i * 16)
     }
 
     // Zeros in every slot.
-    pub fn clear(self, ring: &mut [u8]) -> Reply
+    pub fn clear(self, ring: &mut [u8]) -> Result<(), RingError>
         ensures { outcome (answer_of result) ring.new ≡ put_of ring.old self.base_addr (replicate (16 * self.len) 0) }
     {
         if ring.len() / 16 < self.len {
-            return Reply::Refused(RingError::BadLent);
+            return Err(RingError::BadLent);
         }
         bytes::zero(ring, self.base_addr, 16 * self.len)
     }

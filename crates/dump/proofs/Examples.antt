@@ -6,38 +6,39 @@ use mathlib.Core.List.{List, [], ◌∷◌, ◌++◌}
 use native.Mathlib.Omega.{arith}
 use lib.ListN.{replicate}
 use Rattle.base.specs.Bytes.{word_at}
-use Rattle.dump.specs.declared.Header.TheVariants.{Ring, NoHeader, BadSize, TableOutside}
+use Rattle.dump.specs.declared.BadHeader.TheVariants.{NoHeader, BadSize, TableOutside}
+use Rattle.std.specs.Prelude.{Ok, Err}
 use Rattle.base.specs.Bytes.{get_of}
 use Rattle.desc.specs.Flags.{is_avail, is_used}
 use Rattle.desc.specs.Desc.{decode_of}
 use Rattle.text.specs.Text.{words, digits_of, hex_of, written, puts}
 use Rattle.text.proofs.Room.{room}
-use Rattle.dump.specs.Header.{header_of}
+use Rattle.dump.specs.Header.{header_of, ring}
 use Rattle.dump.specs.Names.{names_of}
 use Rattle.dump.specs.Lines.{mark_text, flag_texts, slot_texts, whole_of, ring_line, line_by, line_of}
 use Rattle.dump.proofs.Short.{line_fits}
 
 -- five bytes have no header
-pub short : header_of (1 ∷ 0 ∷ 0 ∷ 0 ∷ 0 ∷ []) ≡ NoHeader
+pub short : header_of (1 ∷ 0 ∷ 0 ∷ 0 ∷ 0 ∷ []) ≡ Err NoHeader
 unfolding header_of word_at
 short = refl
 
 -- sizes 0 and 2,049
-pub no_size : header_of (0 ∷ 0 ∷ 0 ∷ 0 ∷ 0 ∷ 0 ∷ []) ≡ BadSize 0
+pub no_size : header_of (0 ∷ 0 ∷ 0 ∷ 0 ∷ 0 ∷ 0 ∷ []) ≡ Err (BadSize 0)
 unfolding header_of word_at
 no_size = refl
 
-pub large_size : header_of (1 ∷ 8 ∷ 0 ∷ 0 ∷ 0 ∷ 0 ∷ []) ≡ BadSize 2049
+pub large_size : header_of (1 ∷ 8 ∷ 0 ∷ 0 ∷ 0 ∷ 0 ∷ []) ≡ Err (BadSize 2049)
 unfolding header_of word_at
 large_size = refl
 
 -- a table that begins one byte behind the last
-pub past_the_end : header_of (1 ∷ 0 ∷ 1 ∷ 0 ∷ 0 ∷ 0 ∷ []) ≡ TableOutside 1
+pub past_the_end : header_of (1 ∷ 0 ∷ 1 ∷ 0 ∷ 0 ∷ 0 ∷ []) ≡ Err (TableOutside 1)
 unfolding header_of word_at
 past_the_end = refl
 
 -- the largest size, and a table that begins at the end of the bytes
-pub largest : header_of (0 ∷ 8 ∷ 1 ∷ 0 ∷ 0 ∷ 0 ∷ 255 ∷ []) ≡ Ring 2048 1
+pub largest : header_of (0 ∷ 8 ∷ 1 ∷ 0 ∷ 0 ∷ 0 ∷ 255 ∷ []) ≡ Ok (ring 2048 1)
 unfolding header_of word_at
 largest = refl
 

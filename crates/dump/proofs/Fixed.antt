@@ -1,7 +1,6 @@
 -- Each public contract of the crate determines what its function answers, and what it leaves in the buffer.
-use Rattle.base.specs.Determined.{Determined}
+use Rattle.base.specs.Determined.{Determined, both}
 use Rattle.base.proofs.Determine.{by_equation}
-use Rattle.text.specs.Text.{written}
 use Rattle.dump.proofs.read_header.Reads as read_header
 use Rattle.dump.proofs.flag_names.Reads as flag_names
 use Rattle.dump.proofs.line_of.Reads as Line-of
@@ -12,5 +11,5 @@ read_header_fixed = by_equation _ _ _ (λ κ a r s p. p)
 pub flag_names_fixed : Determined flag_names.Post (λ r s. r)
 flag_names_fixed = by_equation _ _ _ (λ κ a r s p. p)
 
-pub line_of_fixed : Determined Line-of.Post (λ r s. written r s.1.1.0.now)
+pub line_of_fixed : Determined Line-of.Post (λ r s. both r s.1.1.0.now)
 line_of_fixed = by_equation _ _ _ (λ κ a r s p. p)

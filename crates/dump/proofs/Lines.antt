@@ -5,7 +5,7 @@ use native.Mathlib.Omega.{arith}
 use mathlib.Core.Path.{◌≡◌, sym, ap, ◌∙◌}
 use mathlib.Core.Logic.{◌⊎◌, inl, inr, ⊎_elim}
 use mathlib.Core.List.{List, [], ◌∷◌, ◌++◌}
-use mathlib.Core.Bool.{Bool, true, false, cond, ◌&&◌}
+use mathlib.Core.Bool.{true, false, cond, ◌&&◌}
 use lib.Dec.{ltb, eqb}
 use lib.ListN.{length, get_or, drop}
 use borrow.Author.Tests.{lt-ltb, le-ltb}
@@ -13,10 +13,8 @@ use Rattle.base.specs.Answer.{Answer}
 use Rattle.base.specs.Bytes.{get_of}
 use Rattle.base.proofs.Tests.{by_lt}
 use Rattle.desc.specs.declared.Descriptor.{Descriptor}
-use Rattle.desc.specs.Flags.{is_avail, is_used}
 use Rattle.desc.specs.Desc.{decode_of}
-use Rattle.window.specs.declared.Slot.{Slot}
-use Rattle.window.specs.declared.Slot.TheVariants.{Holds, Nothing}
+use Rattle.std.specs.Prelude.{Option, Some, None}
 use Rattle.window.specs.Window.{answer_of, shown_of}
 use Rattle.window.proofs.Laws.{answer_same}
 use Rattle.window.proofs.Shows.{load_and_decode, nothing_then, only_then}
@@ -24,21 +22,6 @@ use Rattle.text.specs.Text.{words, right_of, hex_of, Written, put_text, puts}
 use Rattle.text.proofs.Texts.{texts_append}
 use Rattle.dump.specs.Names.{names_of}
 use Rattle.dump.specs.Lines.{mark_text, flag_texts, slot_texts, whole_of, missing_texts, ring_line}
-
--- ---- what a slot is in a round
-
-module _ (f : ℕ) (w : Bool) where
-  pub mark_available : is_avail f w ≡ true → mark_text f w ≡ words "  available"
-  unfolding mark_text
-  mark_available a = simp a
-
-  pub mark_used_lem : is_avail f w ≡ false → is_used f w ≡ true → mark_text f w ≡ words "  used     "
-  unfolding mark_text
-  mark_used_lem a u = simp (a, u)
-
-  pub mark_neither : is_avail f w ≡ false → is_used f w ≡ false → mark_text f w ≡ words "  -        "
-  unfolding mark_text
-  mark_neither a u = simp (a, u)
 
 -- ---- a slot's line: its numbers, its marks, its flags, the line's end
 
@@ -81,22 +64,22 @@ module _ (l : List ℕ) (table size : ℕ) where
   line i t = simp t
 
   -- a slot that the window holds has its line
-  pub held : (i : ℕ) (d : Descriptor) → answer_of (Holds d) ≡ shown_of (drop table l) size i → ring_line l table size (suc i) ≡ slot_texts i d
+  pub held : (i : ℕ) (d : Descriptor) → answer_of (Some d) ≡ shown_of (drop table l) size i → ring_line l table size (suc i) ≡ slot_texts i d
   held i d e =
       by_lt i size
       (λ h. by_lt (length l) (table + i * 16 + 16)
       (λ w. absurd (omega (arith, ap (λ (a : Answer). get_or a.values 0 0) (e ∙ nothing_then l table size i (inr w)))))
       (λ w. line i (lt-ltb i whole (whole_below i h w))
-      ∙ ap (slot_texts i) (sym (ap content (answer_same (Holds d) (Holds (at i)) (e ∙ load_and_decode l table size i h w))))))
+      ∙ ap (slot_texts i) (sym (ap content (answer_same (Some d) (Some (at i)) (e ∙ load_and_decode l table size i h w))))))
       (λ h. absurd (omega (arith, ap (λ (a : Answer). get_or a.values 0 0) (e ∙ nothing_then l table size i (inl h)))))
     where
-      content : Slot → Descriptor
-      content (Holds x) = x
-      content Nothing = d
+      content : Option Descriptor → Descriptor
+      content (Some x) = x
+      content None = d
 
   -- one that it does not hold has none, but for the first of them
   pub absent :
-      (i : ℕ) → answer_of Nothing ≡ shown_of (drop table l) size i
+      (i : ℕ) → answer_of None ≡ shown_of (drop table l) size i
       → ring_line l table size (suc i) ≡ cond (eqb i whole && ltb i size) (missing_texts i size) []
   unfolding ring_line
   absent i e = simp (le-ltb i whole (whole_above i (only_then l table size i (sym e))))

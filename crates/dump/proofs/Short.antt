@@ -3,25 +3,29 @@
 -- Assumes nothing.
 use Prim.Native.Nat.{ℕ, zero, suc, ◌+◌, ◌-◌, ◌*◌, ◌≤◌}
 use native.Mathlib.Omega.{arith}
-use mathlib.Core.Path.{◌≡◌, refl, ap, ◌∙◌}
+use mathlib.Core.Path.{◌≡◌, refl, sym, ap, ◌∙◌}
 use mathlib.Core.List.{List, [], ◌∷◌, ◌++◌}
 use mathlib.Core.Bool.{Bool, true, false, cond, ◌&&◌}
 use lib.Dec.{ltb, eqb}
 use lib.ListN.{length}
+use borrow.Author.Tests.{eq-eqb, ne_eqb}
+use Rattle.base.specs.Determined.{both}
 use Rattle.base.specs.Bytes.{get_of}
-use Rattle.base.proofs.Tests.{chosen}
+use Rattle.base.proofs.Tests.{chosen, by_eq}
 use Rattle.desc.specs.declared.Descriptor.{Descriptor}
 use Rattle.desc.specs.Flags.{is_avail, is_used}
 use Rattle.desc.specs.Desc.{decode_of}
-use Rattle.text.specs.Text.{words, right_of, hex_of, Written, written, puts}
+use Rattle.text.specs.Text.{words, right_of, hex_of, written, puts}
 use Rattle.text.proofs.Room.{room, room_append, right_short, hex_length, texts_fit}
+use Rattle.std.specs.Prelude.{Option, Some, None, Result, Ok, Err}
 use Rattle.dump.specs.declared.Header.{Header}
-use Rattle.dump.specs.declared.Header.TheVariants.{Ring, NoHeader, BadSize, TableOutside}
+use Rattle.dump.specs.declared.BadHeader.{BadHeader}
+use Rattle.dump.specs.declared.BadHeader.TheVariants.{NoHeader, BadSize, TableOutside}
 use Rattle.dump.specs.declared.Names.{Names}
 use Rattle.dump.specs.Header.{header_of}
 use Rattle.dump.specs.Names.{names_of}
 use Rattle.dump.specs.Lines.{mark_text, named, flag_texts, slot_texts, whole_of, missing_texts, ring_line}
-use Rattle.dump.specs.Lines.{bad_size_texts, outside_texts, no_header_texts, line_by, line_of}
+use Rattle.dump.specs.Lines.{bad_size_texts, outside_texts, no_header_texts, line_by, line_of, told}
 use Rattle.dump.proofs.line_of.Reads as Line-of
 
 -- ---- a slot's line
@@ -102,12 +106,12 @@ ring_short l table size (suc i) =
     (slot_short i d)
     (shown_short (eqb i whole && ltb i size) (missing_texts i size) (missing_short i size))
 
-by_header : (h : Header) (l : List ℕ) (k : ℕ) → room (line_by h l k) ≤ 160
+by_header : (h : Result Header BadHeader) (l : List ℕ) (k : ℕ) → room (line_by h l k) ≤ 160
 unfolding line_by words
-by_header (Ring size table) l k = ring_short l (6 + table) size k
-by_header NoHeader l k = shown_short (eqb k 0) no_header_texts (omega arith)
-by_header (BadSize n) l k = shown_short (eqb k 0) (bad_size_texts n) (around_short (words "bad input: the size is ") (words ", not 1 to 2048\n") n (omega arith))
-by_header (TableOutside n) l k =
+by_header (Ok h) l k = ring_short l (6 + h.table) h.size k
+by_header (Err NoHeader) l k = shown_short (eqb k 0) no_header_texts (omega arith)
+by_header (Err (BadSize n)) l k = shown_short (eqb k 0) (bad_size_texts n) (around_short (words "bad input: the size is ") (words ", not 1 to 2048\n") n (omega arith))
+by_header (Err (TableOutside n)) l k =
     shown_short (eqb k 0) (outside_texts n) (around_short (words "bad input: the table begins at ") (words ", behind the end of the bytes\n") n (omega arith))
 
 pub line_short : (l : List ℕ) (k : ℕ) → room (line_of l k) ≤ 160
@@ -117,16 +121,38 @@ line_short l k = by_header (header_of l) l k
 pub line_fits : (l out : List ℕ) (k : ℕ) → 160 ≤ length out → (puts (line_of l k) (written 0 out)).place ≡ room (line_of l k)
 line_fits l out k h = texts_fit (line_of l k) out 0 (omega (arith, line_short l k)) ∙ omega arith
 
+-- a length, where there is one
+abbrev pub length_of : ℕ → Option ℕ
+length_of n = cond (eqb n 0) None (Some n)
+
 -- and so says the contract of `line_of` of its answer, as a caller has it
 pub line_told :
-    (l out out' : List ℕ) (k r : ℕ) → written r out' ≡ puts (line_of l k) (written 0 out) → 160 ≤ length out
-    → (r ≡ room (line_of l k)) × (r ≤ 160)
+    (l out out' : List ℕ) (k : ℕ) (r : Option ℕ) → both r out' ≡ told (puts (line_of l k) (written 0 out)) → 160 ≤ length out
+    → (r ≡ length_of (room (line_of l k))) × (room (line_of l k) ≤ 160)
 line_told l out out' k r p h =
-    let e : r ≡ room (line_of l k) = ap (λ (w : Written). w.place) p ∙ line_fits l out k h in
-    (e, omega (arith, line_short l k))
+    (ap (λ (x : Option ℕ × List ℕ). x.0) p ∙ ap length_of (line_fits l out k h), line_short l k)
 
 -- and as it is generated
 pub line_whole :
-    (κ : _) (a : _) (r : ℕ) (s : _) → Line-of.Post κ a r s → 160 ≤ length a.1.1.0.now
-    → (r ≡ room (line_of a.0.now a.1.0)) × (r ≤ 160)
+    (κ : _) (a : _) (r : Option ℕ) (s : _) → Line-of.Post κ a r s → 160 ≤ length a.1.1.0.now
+    → (r ≡ length_of (room (line_of a.0.now a.1.0))) × (room (line_of a.0.now a.1.0) ≤ 160)
 line_whole κ a r s = line_told a.0.now a.1.1.0.now s.1.1.0.now a.1.0 r
+
+-- so where a line is shown, its length is not 0, and no longer than 160
+pub line_shown :
+    (l out out' : List ℕ) (k : ℕ) (r : Option ℕ) (n : ℕ) → both r out' ≡ told (puts (line_of l k) (written 0 out)) → 160 ≤ length out
+    → r ≡ Some n → (n ≡ room (line_of l k)) × (n ≤ 160)
+line_shown l out out' k r n p h e =
+    let t = line_told l out out' k r p h in
+    let m = room (line_of l k) in
+    let s : n ≡ m =
+    by_eq m 0
+    (λ z. absurd (some_none n (sym e ∙ t.0 ∙ simp (eq-eqb m 0 z))))
+    (λ z. some_same n m (sym e ∙ t.0 ∙ simp (ne_eqb m 0 z))) in
+    (s, omega (arith, s, t.1))
+  where
+    some_none : (n : ℕ) → Some n ≡ None → ⊥
+    some_none n h = cc
+
+    some_same : (n m : ℕ) → Some n ≡ Some m → n ≡ m
+    some_same n m h = cc

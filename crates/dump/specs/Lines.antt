@@ -1,13 +1,14 @@
 -- What is shown of a region's dump, line by line: a heading and a line for each slot, or one line that says what is wrong.
 -- A line is given by its texts, one behind the other.
-use Rattle.std.specs.Prelude.{ℕ, zero, suc, ◌+◌, ◌-◌, ◌*◌, ◌/◌, List, [], ◌∷◌, ◌++◌, Bool, true, false, cond, ◌&&◌, ltb, eqb, length}
+use Rattle.std.specs.Prelude.{ℕ, zero, suc, ◌+◌, ◌-◌, ◌*◌, ◌/◌, List, [], ◌∷◌, ◌++◌, Bool, true, false, cond, ◌&&◌, ltb, eqb, length, Option, Some, None, Result, Ok, Err}
 use Rattle.base.specs.Bytes.{get_of}
 use Rattle.desc.specs.declared.Descriptor.{Descriptor}
 use Rattle.desc.specs.Flags.{is_avail, is_used}
 use Rattle.desc.specs.Desc.{decode_of}
-use Rattle.text.specs.Text.{words, right_of, hex_of}
+use Rattle.text.specs.Text.{words, right_of, hex_of, Written}
 use Rattle.dump.specs.declared.Header.{Header}
-use Rattle.dump.specs.declared.Header.TheVariants.{Ring, NoHeader, BadSize, TableOutside}
+use Rattle.dump.specs.declared.BadHeader.{BadHeader}
+use Rattle.dump.specs.declared.BadHeader.TheVariants.{NoHeader, BadSize, TableOutside}
 use Rattle.dump.specs.declared.Names.{Names}
 use Rattle.dump.specs.Header.{header_of}
 use Rattle.dump.specs.Names.{names_of}
@@ -75,17 +76,24 @@ outside_texts n = words "bad input: the table begins at " ∷ (right_of 0 n ++ (
 abbrev pub no_header_texts : List (List ℕ)
 no_header_texts = words "bad input: fewer than the six bytes of a size and a table's offset\n" ∷ []
 
+abbrev pub bad_texts : BadHeader → List (List ℕ)
+bad_texts NoHeader = no_header_texts
+bad_texts (BadSize n) = bad_size_texts n
+bad_texts (TableOutside n) = outside_texts n
+
 -- line 0 and no other
 abbrev pub only_line : List (List ℕ) → ℕ → List (List ℕ)
 only_line ts k = cond (eqb k 0) ts []
 
 -- the k-th line by what the header says; no texts where there is no such line
-unfoldable pub line_by : Header → List ℕ → ℕ → List (List ℕ)
-line_by (Ring size table) l k = ring_line l (6 + table) size k
-line_by NoHeader l k = only_line no_header_texts k
-line_by (BadSize n) l k = only_line (bad_size_texts n) k
-line_by (TableOutside n) l k = only_line (outside_texts n) k
+unfoldable pub line_by : Result Header BadHeader → List ℕ → ℕ → List (List ℕ)
+line_by (Ok h) l k = ring_line l (6 + h.table) h.size k
+line_by (Err e) l k = only_line (bad_texts e) k
 
 -- the k-th line of what is shown of the dump l
 abbrev pub line_of : List ℕ → ℕ → List (List ℕ)
 line_of l k = line_by (header_of l) l k
+
+-- what a caller is told of a line: how long it is, and nothing where there is none; and the buffer
+abbrev pub told : Written → Option ℕ × List ℕ
+told w = (cond (eqb w.place 0) None (Some w.place), w.buffer)

@@ -4,27 +4,35 @@
 mod line;
 
 ghost use Rattle.std.specs.Prelude.{◌≡◌};
+ghost use Rattle.base.specs.Determined.{both};
 ghost use Rattle.text.specs.Text.{written, puts};
 ghost use Rattle.dump.specs.Header.{header_of};
 ghost use Rattle.dump.specs.Names.{names_of};
-ghost use Rattle.dump.specs.Lines.{line_of};
+ghost use Rattle.dump.specs.Lines.{line_of, told};
 
-use base::bytes;
+use base::bytes::Word;
+use text::Line;
 
 // Programs run rings of at most so many slots.
 pub const MOST: u16 = 2048;
 
-// The ring's size and where its table begins in the bytes behind the header, or what is wrong with them.
-#[derive(Clone, Copy)]
-pub enum Header {
-    Ring(u16, u32),
+// The ring's size, and where its table begins in the bytes behind the header.
+#[derive(Clone, Copy, PartialEq, Eq)]
+pub struct Header {
+    pub size: u16,
+    pub table: u32,
+}
+
+// What is wrong with the bytes.
+#[derive(Clone, Copy, PartialEq, Eq)]
+pub enum BadHeader {
     NoHeader,
     BadSize(u16),
     TableOutside(u32),
 }
 
 // The flags by name, and the bits that have none, in their places.
-#[derive(Clone, Copy)]
+#[derive(Clone, Copy, PartialEq, Eq)]
 pub struct Names {
     pub next: bool,
     pub write: bool,
@@ -34,23 +42,25 @@ pub struct Names {
     pub unnamed: u16,
 }
 
-pub fn read_header(input: &[u8]) -> Header
+#[tactic(auto, unfolding(crate::specs::Header::header_of))]
+pub fn read_header(input: &[u8]) -> Result<Header, BadHeader>
     ensures { result ≡ header_of input.now }
 {
     if input.len() < 6 {
-        return Header::NoHeader;
+        return Err(BadHeader::NoHeader);
     }
-    let size = bytes::word16(input[0], input[1]);
-    let table = bytes::word32(input[2], input[3], input[4], input[5]);
-    if (size == 0) | (MOST < size) {
-        return Header::BadSize(size);
+    let size = u16::read(input, 0);
+    let table = u32::read(input, 2);
+    if size == 0 || MOST < size {
+        return Err(BadHeader::BadSize(size));
     }
     if input.len() - 6 < table as usize {
-        return Header::TableOutside(table);
+        return Err(BadHeader::TableOutside(table));
     }
-    Header::Ring(size, table)
+    Ok(Header { size, table })
 }
 
+#[tactic(auto, unfolding(crate::specs::Names::names_of))]
 pub fn flag_names(flags: u16) -> Names
     ensures { result ≡ names_of flags }
 {
@@ -64,31 +74,19 @@ pub fn flag_names(flags: u16) -> Names
     }
 }
 
-// Line k of what is shown of a dump, at the start of a lent buffer: how long it is, 0 where there is no such line. None has
+// Line k of what is shown of a dump, at the start of a lent buffer: how long it is, where there is such a line. None has
 // more than 160 bytes (`line_short` in proofs/Short.antt); one that does not fit is told by `text::LOST`.
-pub fn line_of(input: &[u8], k: u16, out: &mut [u8]) -> usize
-    ensures { written result out.new ≡ puts (line_of input.now k) (written 0 out.old) }
+#[tactic(auto, unfolding(crate::specs::Lines::line_by))]
+pub fn line_of(input: &[u8], k: u16, out: &mut [u8]) -> Option<usize>
+    ensures { both result out.new ≡ told (puts (line_of input.now k) (written 0 out.old)) }
 {
+    let mut line = Line::new(out, 0);
     match read_header(input) {
-        Header::Ring(size, table) => line::of_ring(input, 6 + table as usize, size, k, out),
-        Header::NoHeader => line::only(
-            out,
-            k,
-            b"bad input: fewer than the six bytes of a size and a table's offset\n",
-        ),
-        Header::BadSize(n) => line::around(
-            out,
-            k,
-            b"bad input: the size is ",
-            n as u64,
-            b", not 1 to 2048\n",
-        ),
-        Header::TableOutside(n) => line::around(
-            out,
-            k,
-            b"bad input: the table begins at ",
-            n as u64,
-            b", behind the end of the bytes\n",
-        ),
+        Ok(header) => line::of_ring(&mut line, input, header, k),
+        Err(bad) => line::of_none(&mut line, bad, k),
+    }
+    match line.at {
+        0 => None,
+        n => Some(n),
     }
 }

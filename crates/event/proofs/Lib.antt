@@ -1,2 +1,3 @@
 pub mod Trips
+pub mod Masks
 pub mod Fixed

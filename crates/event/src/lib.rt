@@ -9,17 +9,23 @@ ghost use Rattle.base.specs.Answer.{outcome, answer_of};
 ghost use Rattle.base.specs.Bytes.{put_of, get_of};
 ghost use Rattle.event.specs.Event.{ENABLE, event, flags_of, off_of, wrap_of, set_flags, set_desc_event, encode_of, decode_of};
 
-use base::{Reply, bytes, pick};
+use base::{RingError, bytes, pick};
 
-// EventFlags.
+// EventFlags: plain 16-bit numbers, as document 01 asks of every flag ("`bitflags`: plain 16-bit numbers").
 pub const ENABLE: u16 = 0;
 
 pub const DISABLE: u16 = 1;
 
 pub const DESC: u16 = 2;
 
+// The two bits of the flags, of the second word.
+const FLAGS: u16 = 3;
+
+// The bit of the wrap, of the first word; the offset has the others.
+const WRAP: u16 = 32768;
+
 // The two words of the area: offset and wrap, then flags. Of the second, fourteen bits are reserved.
-#[derive(Clone, Copy)]
+#[derive(Clone, Copy, PartialEq, Eq)]
 pub struct EventSuppression {
     pub off_wrap: u16,
     pub flags: u16,
@@ -35,61 +41,58 @@ impl EventSuppression {
     pub fn flags(self) -> u16
         ensures { result ≡ flags_of self }
     {
-        self.flags % 4
+        self.flags & FLAGS
     }
 
     // The reserved bits stay: they are not this end's to clear.
+    #[tactic(auto, using(crate::proofs::Masks::flags_kept), unfolding(crate::specs::Event::set_flags))]
     pub fn set_flags(self, flags: u16) -> EventSuppression
         ensures { result ≡ set_flags self flags }
     {
         EventSuppression {
-            off_wrap: self.off_wrap,
-            flags: self.flags / 4 * 4 + flags % 4,
+            flags: self.flags & !FLAGS | flags & FLAGS,
+            ..self
         }
     }
 
     pub fn desc_event_off(self) -> u16
         ensures { result ≡ off_of self }
     {
-        self.off_wrap % 32768
+        self.off_wrap & !WRAP
     }
 
     pub fn desc_event_wrap(self) -> bool
         ensures { result ≡ wrap_of self }
     {
-        self.off_wrap / 32768 == 1
+        self.off_wrap & WRAP != 0
     }
 
+    #[tactic(auto, using(crate::proofs::Masks::wrap_beside), unfolding(crate::specs::Event::set_desc_event))]
     pub fn set_desc_event(self, off: u16, wrap: bool) -> EventSuppression
         ensures { result ≡ set_desc_event self off wrap }
     {
         EventSuppression {
-            off_wrap: off % 32768 + pick::pick16(wrap, 32768, 0),
-            flags: self.flags,
+            off_wrap: off & !WRAP | pick::pick(wrap, WRAP, 0),
+            ..self
         }
     }
 
+    #[tactic(auto, unfolding(crate::specs::Event::encode_of, base::specs::Bytes::bytes_of))]
     pub fn encode(self) -> [u8; 4]
         ensures { result ≡ encode_of self }
     {
-        let o0 = self.off_wrap;
-        let o1 = o0 / 256;
-        let f0 = self.flags;
-        let f1 = f0 / 256;
-        [
-            (o0 % 256) as u8,
-            (o1 % 256) as u8,
-            (f0 % 256) as u8,
-            (f1 % 256) as u8,
-        ]
+        let [o0, o1] = self.off_wrap.to_le_bytes();
+        let [f0, f1] = self.flags.to_le_bytes();
+        [o0, o1, f0, f1]
     }
 
+    #[tactic(auto, unfolding(crate::specs::Event::decode_of, base::specs::Bytes::word_at))]
     pub fn decode(b: [u8; 4]) -> EventSuppression
         ensures { result ≡ decode_of b }
     {
         EventSuppression {
-            off_wrap: bytes::word16(b[0], b[1]),
-            flags: bytes::word16(b[2], b[3]),
+            off_wrap: u16::from_le_bytes([b[0], b[1]]),
+            flags: u16::from_le_bytes([b[2], b[3]]),
         }
     }
 
@@ -97,21 +100,17 @@ impl EventSuppression {
     pub fn read(ring: &[u8], at: usize) -> EventSuppression
         ensures { result ≡ decode_of (get_of ring.now at 4) }
     {
-        if pick::ends_by(at, 4, ring.len()) {
-            return EventSuppression::decode([ring[at], ring[at + 1], ring[at + 2], ring[at + 3]]);
-        }
-        EventSuppression::new(0, ENABLE)
+        EventSuppression::decode(bytes::get(ring, at))
     }
 
-    // The flags are the last two bytes, so they are stored last.
-    pub fn write(self, ring: &mut [u8], at: usize) -> Reply
+    // The flags are the last two bytes; as in a slot, no order of the four is to be kept.
+    pub fn write(self, ring: &mut [u8], at: usize) -> Result<(), RingError>
         ensures { outcome (answer_of result) ring.new ≡ put_of ring.old at (encode_of self) }
     {
-        let b = self.encode();
-        bytes::put(ring, at, &b)
+        bytes::put(ring, at, &self.encode())
     }
 
-    pub fn clear(ring: &mut [u8], at: usize) -> Reply
+    pub fn clear(ring: &mut [u8], at: usize) -> Result<(), RingError>
         ensures { outcome (answer_of result) ring.new ≡ put_of ring.old at (encode_of (event 0 ENABLE)) }
     {
         EventSuppression::new(0, ENABLE).write(ring, at)

@@ -1,153 +1,145 @@
 // QEMU's calls, made of the port's consumer.
-use crate::record::Record;
+use crate::record::{Op, Record};
 use crate::{memory, tell};
 use base::RingError;
-use consumer::{Answered, CompletedTold, Opened, Polled, PolledChain, RingConsumer};
-use ring::AskedCount;
+use consumer::RingConsumer;
+use cursor::RingCursor;
+use layout::Layout;
 
-// A ring of zero bytes: the table at 0, then the driver's event area and the device's.
-pub fn start(
-    c: RingConsumer,
-    r: Record,
-    ring: &mut [u8],
-    twin: &mut [u8],
-    counts: &mut [u16],
-) -> RingConsumer {
-    memory::clear(ring, twin);
-    let size = r.slot as u16;
-    let driver = 16 * (r.slot as usize);
-    match RingConsumer::new(size, 0, driver, driver + 4, ring, counts) {
-        Opened::Ring(c) => {
-            named(r, c.len());
-            c
-        }
-        Opened::Refused(e) => {
-            tell::refused(e);
-            c
-        }
-    }
+// `ring` is what the port has before it. `twin` is what Linux and QEMU had in memory, and the two are equal between records.
+#[derive(Drop)]
+pub struct Device {
+    end: RingConsumer,
+    ring: [u8; 264],
+    twin: [u8; 264],
+    counts: [u16; 16],
 }
 
-// "P4A (size 4)", the size as the ring itself says it.
-fn named(r: Record, size: AskedCount) {
-    let b = r.bytes;
-    let name = [b[0], b[1], b[2]];
-    say::words(&name);
-    match size {
-        AskedCount::Is(n) => {
-            say::number(b" (size ", n as u64);
-            say::words(b")\n");
-        }
-        AskedCount::Refused(e) => tell::refused(e),
-    }
-}
-
-// What Linux wrote.
-pub fn given(c: RingConsumer, r: Record, ring: &mut [u8], twin: &mut [u8]) -> RingConsumer {
-    let l = c.layout;
-    memory::put(ring, l, r);
-    memory::put(twin, l, r);
-    c
-}
-
-pub fn pop(c: RingConsumer, ring: &[u8], counts: &mut [u16]) -> RingConsumer {
-    let mut addrs = [0u64; 16];
-    let mut lens = [0u32; 16];
-    match c.poll_available(ring, counts, &mut addrs, &mut lens) {
-        Polled::Chain(chain, c) => {
-            popped(chain, &addrs, &lens);
-            c
-        }
-        Polled::Refused(e, c) => {
-            nothing(e);
-            c
+impl Device {
+    // Before the first record there is no ring: whatever is asked of this one is refused with 7.
+    pub fn closed() -> Device {
+        let layout = Layout {
+            table: 0,
+            driver: 0,
+            device: 0,
+            size: 0,
+        };
+        let end = RingConsumer {
+            layout,
+            avail: RingCursor::new(),
+            used: RingCursor::new(),
+            inflight: 0,
+            shadow: event::ENABLE,
+        };
+        Device {
+            end,
+            ring: [0; 264],
+            twin: [0; 264],
+            counts: [0; 16],
         }
     }
-}
 
-fn popped(chain: PolledChain, addrs: &[u64], lens: &[u32]) {
-    say::number(b"pop id ", chain.id as u64);
-    say::number(b" n ", chain.count as u64);
-    say::number(b" readable ", chain.readable as u64);
-    tell::elements(addrs, lens, chain.count, chain.readable);
-    say::words(b"\n");
-}
-
-// QEMU's none is the port's refusal 3; any other refusal is one.
-fn nothing(e: RingError) {
-    let n = e.number();
-    if n == 3 {
-        say::words(b"none\n");
-    } else {
-        tell::refused(e);
-    }
-}
-
-fn asked(r: Record) {
-    say::number(b"push ", r.id as u64);
-    say::number(b" ", r.len as u64);
-    say::words(b" => ");
-}
-
-pub fn push(
-    c: RingConsumer,
-    r: Record,
-    ring: &mut [u8],
-    twin: &mut [u8],
-    counts: &mut [u16],
-) -> RingConsumer {
-    asked(r);
-    answered(c.submit_used(ring, counts, r.id, r.len), r, ring, twin)
-}
-
-// The answer of a call that hands back the record alone.
-fn answered(a: Answered, r: Record, ring: &mut [u8], twin: &mut [u8]) -> RingConsumer {
-    match a {
-        Answered::Done(c) => {
-            say::words(b"ok");
-            memory::compare(c.layout, r, ring, twin);
-            c
-        }
-        Answered::Refused(e, c) => {
-            tell::refused(e);
-            c
+    pub fn step(&mut self, r: Record) {
+        match r.op {
+            Op::Start => self.start(r),
+            Op::Slot | Op::Driver => self.given(r),
+            Op::Pop => self.pop(),
+            Op::Push => self.push(r),
+            Op::PushNotify => self.push_and_ask(r, true),
+            Op::PushSilent => self.push_and_ask(r, false),
+            Op::On => self.turn_on(r),
+            Op::Off => self.turn_off(r),
         }
     }
-}
 
-pub fn push_and_ask(
-    c: RingConsumer,
-    r: Record,
-    ring: &mut [u8],
-    twin: &mut [u8],
-    counts: &mut [u16],
-) -> RingConsumer {
-    asked(r);
-    match c.submit_used_with_notify(ring, counts, r.id, r.len) {
-        CompletedTold::Notify(b, c) => {
-            let c = answered(Answered::Done(c), r, ring, twin);
-            told(b, r.op == b'Y');
-            c
+    // A ring of zero bytes: the table at 0, then the driver's event area and the device's.
+    fn start(&mut self, r: Record) {
+        self.ring = [0; 264];
+        self.twin = [0; 264];
+        let size = u16::from(r.slot);
+        let driver = 16 * usize::from(r.slot);
+        let c = RingConsumer::new(size, 0, driver, driver + 4, &self.ring, &mut self.counts);
+        match c {
+            Ok(c) => {
+                self.end = c;
+                tell::opened(&r.bytes[..3], c.len());
+            }
+            Err(e) => tell::refused(e),
         }
-        CompletedTold::Refused(e, c) => answered(Answered::Refused(e, c), r, ring, twin),
     }
-}
 
-fn told(ours: bool, theirs: bool) {
-    say::either(ours, b"notify 1", b"notify 0");
-    if ours != theirs {
-        say::either(theirs, b", QEMU notify 1", b", QEMU notify 0");
+    // What Linux wrote. A place outside the bytes is refused, and nothing was written there.
+    fn given(&mut self, r: Record) {
+        let l = self.end.layout;
+        let _ = memory::put(&mut self.ring, l, r);
+        let _ = memory::put(&mut self.twin, l, r);
     }
-    say::words(b"\n");
-}
 
-// QEMU turns them on at the slot that it pops next.
-pub fn turn(c: RingConsumer, r: Record, ring: &mut [u8], twin: &mut [u8]) -> RingConsumer {
-    if r.op == b'A' {
+    // QEMU's none is the port's refusal 3; any other refusal is one.
+    fn pop(&mut self) {
+        let mut addrs = [0u64; 16];
+        let mut lens = [0u32; 16];
+        let c = self.end;
+        let (c, chain) = c.poll_available(&self.ring, &mut self.counts, &mut addrs, &mut lens);
+        self.end = c;
+        match chain {
+            Ok(chain) => tell::popped(chain, &addrs, &lens),
+            Err(RingError::WouldBlock) => say::words(b"none\n"),
+            Err(e) => tell::refused(e),
+        }
+    }
+
+    fn push(&mut self, r: Record) {
+        tell::pushing(r.id, r.len);
+        let c = self.end;
+        let (c, answer) = c.submit_used(&mut self.ring, &mut self.counts, r.id, r.len);
+        self.answered(c, answer, r);
+    }
+
+    fn push_and_ask(&mut self, r: Record, theirs: bool) {
+        tell::pushing(r.id, r.len);
+        let c = self.end;
+        let (c, notify) = c.submit_used_with_notify(&mut self.ring, &mut self.counts, r.id, r.len);
+        self.answered(c, notify.map(|_| ()), r);
+        if let Ok(ours) = notify {
+            tell::notified(ours, theirs);
+        }
+    }
+
+    // QEMU turns them on at the slot that it pops next.
+    fn turn_on(&mut self, r: Record) {
         say::words(b"notif on => ");
-        let a = c.enable_avail_notifications_for_next(ring);
-        return answered(a, r, ring, twin);
+        let (c, answer) = self.end.enable_avail_notifications_for_next(&mut self.ring);
+        self.answered(c, answer, r);
     }
-    say::words(b"notif off => ");
-    answered(c.disable_avail_notifications(ring), r, ring, twin)
+
+    fn turn_off(&mut self, r: Record) {
+        say::words(b"notif off => ");
+        let (c, answer) = self.end.disable_avail_notifications(&mut self.ring);
+        self.answered(c, answer, r);
+    }
+
+    fn answered(&mut self, c: RingConsumer, answer: Result<(), RingError>, r: Record) {
+        self.end = c;
+        match answer {
+            Ok(()) => self.compare(r),
+            Err(e) => tell::refused(e),
+        }
+    }
+
+    // What the port's call changed, then what QEMU has instead. From here on QEMU's bytes stand, so that what Linux writes later
+    // stands over the true ones.
+    fn compare(&mut self, r: Record) {
+        let l = self.end.layout;
+        say::words(b"ok |");
+        memory::places(l, &self.ring, &self.twin);
+        // a place outside is refused and changes nothing
+        let _ = memory::put(&mut self.twin, l, r);
+        if self.ring != self.twin {
+            say::words(b", QEMU");
+            memory::places(l, &self.twin, &self.ring);
+        }
+        say::words(b"\n");
+        self.ring = self.twin;
+    }
 }

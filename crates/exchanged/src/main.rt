@@ -16,81 +16,27 @@ mod memory;
 mod record;
 mod tell;
 
-use base::pick;
-use consumer::RingConsumer;
-use cursor::RingCursor;
-use layout::Layout;
+use device::Device;
 use record::Record;
 
 fn main() {
+    // A buffer of fixed size and how much of it was read: programs have no heap.
     let mut input = io::buffer();
     let n = io::read_full(0, &mut input);
-    if say::are_records(&input[..n], 24, b"SLDPUYNAO") {
-        run(&input, n);
+    let input = &input[..n];
+    if say::are_records(input, record::SIZE, b"SLDPUYNAO") {
+        run(input);
     } else {
         say::words(b"bad\n");
     }
 }
 
-fn run(input: &[u8], n: usize) {
-    let mut ring = [0u8; 264];
-    let mut twin = [0u8; 264];
-    let mut counts = [0u16; 16];
-    let mut c = closed();
-    for i in 0..170 {
-        c = turn(c, input, n, 24 * i, &mut ring, &mut twin, &mut counts);
-    }
-}
-
-// The record at a place of the input's n bytes, if there is a whole one.
-fn turn(
-    c: RingConsumer,
-    input: &[u8],
-    n: usize,
-    at: usize,
-    ring: &mut [u8],
-    twin: &mut [u8],
-    counts: &mut [u16],
-) -> RingConsumer {
-    if pick::ends_by(at, 24, n) {
-        return step(c, Record::read(input, at), ring, twin, counts);
-    }
-    c
-}
-
-// Before the first record there is no ring: whatever is asked of this one is refused with 7.
-fn closed() -> RingConsumer {
-    let layout = Layout {
-        table: 0,
-        driver: 0,
-        device: 0,
-        size: 0,
-    };
-    RingConsumer {
-        layout,
-        avail: RingCursor::new(),
-        used: RingCursor::new(),
-        inflight: 0,
-        shadow: event::ENABLE,
-    }
-}
-
-// `ring` is what the port has before it. `twin` is what Linux and QEMU had in memory, and the two are equal between records.
-fn step(
-    c: RingConsumer,
-    r: Record,
-    ring: &mut [u8],
-    twin: &mut [u8],
-    counts: &mut [u16],
-) -> RingConsumer {
-    let op = r.op;
-    match op {
-        b'S' => device::start(c, r, ring, twin, counts),
-        b'L' | b'D' => device::given(c, r, ring, twin),
-        b'P' => device::pop(c, ring, counts),
-        b'U' => device::push(c, r, ring, twin, counts),
-        b'Y' | b'N' => device::push_and_ask(c, r, ring, twin, counts),
-        b'A' | b'O' => device::turn(c, r, ring, twin),
-        _ => c,
+fn run(input: &[u8]) {
+    let mut device = Device::closed();
+    for r in input.chunks(record::SIZE) {
+        // `main` has looked at the letters
+        if let Ok(r) = Record::read(r) {
+            device.step(r);
+        }
     }
 }

@@ -1,10 +1,50 @@
 // One record of the input.
-use base::bytes;
+use base::bytes::Word;
+use base::pick;
 use layout::Layout;
+
+pub const SIZE: usize = 24;
+
+// The letters in the head of main.rt.
+#[derive(Clone, Copy, PartialEq, Eq)]
+pub enum Op {
+    Start,
+    Slot,
+    Driver,
+    Pop,
+    Push,
+    PushNotify,
+    PushSilent,
+    On,
+    Off,
+}
+
+// A letter that names no op.
+#[derive(Clone, Copy)]
+pub struct NoOp;
+
+impl TryFrom<u8> for Op {
+    type Error = NoOp;
+
+    fn try_from(letter: u8) -> Result<Op, NoOp> {
+        match letter {
+            b'S' => Ok(Op::Start),
+            b'L' => Ok(Op::Slot),
+            b'D' => Ok(Op::Driver),
+            b'P' => Ok(Op::Pop),
+            b'U' => Ok(Op::Push),
+            b'Y' => Ok(Op::PushNotify),
+            b'N' => Ok(Op::PushSilent),
+            b'A' => Ok(Op::On),
+            b'O' => Ok(Op::Off),
+            _ => Err(NoOp),
+        }
+    }
+}
 
 #[derive(Clone, Copy)]
 pub struct Record {
-    pub op: u8,
+    pub op: Op,
     pub slot: u8,
     pub id: u16,
     pub len: u32,
@@ -12,45 +52,28 @@ pub struct Record {
 }
 
 impl Record {
-    pub fn read(input: &[u8], at: usize) -> Record {
-        let s = from(input, at);
-        Record {
-            op: byte(s, 0),
-            slot: byte(s, 1),
-            id: bytes::word16(byte(s, 2), byte(s, 3)),
-            len: bytes::word32(byte(s, 4), byte(s, 5), byte(s, 6), byte(s, 7)),
+    // Past the end of s there are zeros.
+    pub fn read(s: &[u8]) -> Result<Record, NoOp> {
+        Ok(Record {
+            op: Op::try_from(pick::at(s, 0, 0))?,
+            slot: pick::at(s, 1, 0),
+            id: u16::read(s, 2),
+            len: u32::read(s, 4),
             bytes: desc::load(s, 8),
-        }
+        })
     }
 
     // Are its bytes an event area's, and not a slot's?
     pub fn is_area(self) -> bool {
-        let op = self.op;
-        match op {
-            b'D' | b'A' | b'O' => true,
-            _ => false,
-        }
+        matches!(self.op, Op::Driver | Op::On | Op::Off)
     }
 
     // Where its bytes belong.
     pub fn place(self, l: Layout) -> usize {
-        let op = self.op;
-        match op {
-            b'D' => l.driver,
-            b'A' | b'O' => l.device,
-            _ => 16 * (self.slot as usize),
+        match self.op {
+            Op::Driver => l.driver,
+            Op::On | Op::Off => l.device,
+            _ => 16 * usize::from(self.slot),
         }
     }
-}
-
-fn from(s: &[u8], at: usize) -> &[u8] {
-    if at <= s.len() {
-        return &s[at..];
-    }
-    &s[s.len()..]
-}
-
-// Past the end there are zeros.
-fn byte(s: &[u8], k: usize) -> u8 {
-    if k < s.len() { s[k] } else { 0 }
 }

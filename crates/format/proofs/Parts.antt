@@ -1,6 +1,6 @@
--- Parts of a slice, exit by exit, for elements of any width.
+-- Parts of a slice, for elements of any type and width.
 -- Assumes nothing.
-use Prim.Native.Nat.{ℕ, ◌+◌, ◌-◌, ◌*◌, ◌≤◌, ◌<◌, min}
+use Prim.Native.Nat.{ℕ, ◌+◌, ◌-◌, ◌*◌, ◌≤◌, min}
 use mathlib.Core.Path.{◌≡◌, refl, sym, ap, ap₂, ◌∙◌}
 use native.Mathlib.Omega.{arith}
 use lib.ListN.{length, take, drop, length-drop, drop_of_length-le}
@@ -10,67 +10,48 @@ use Rattle.base.specs.Part.{Slice, slice, part}
 use Rattle.base.proofs.Tests.{by_lt}
 use Rattle.format.specs.Part.{first_of, from_of, between_of}
 
-module _ (w n : ℕ) (s : Slice) where
+-- k is where a part of n, or the one behind it, is cut: at the end of the slice, where n is past it
+module _ {A : Type 0} (w n k : ℕ) (s : Slice A) (cut : k ≡ min n (length s.elements)) where
+  first_taken : take k s.elements ≡ take n s.elements
+  first_taken =
+      by_lt (length s.elements) n
+      (λ h. take_all k s.elements (omega arith) ∙ sym (take_all n s.elements (omega arith)))
+      (λ h. let e : k ≡ n = omega arith in ap (λ (i : ℕ). take i s.elements) e)
+
   -- the first part begins where the slice does
-  pub first_fits : slice s.place (take n s.elements) ≡ first_of w n s
+  pub first_cut : slice s.place (take k s.elements) ≡ first_of w n s
   unfolding first_of
-  first_fits =
+  first_cut =
       let e : s.place.1 ≡ 0 * w + s.place.1 = omega arith in
-      λ i. slice (s.place.0, e i) (take n s.elements)
+      λ i. slice (s.place.0, e i) (first_taken i)
 
-  pub first_all : length s.elements < n → slice s.place s.elements ≡ first_of w n s
-  first_all h =
-      let g : length s.elements ≤ n = omega arith in
-      ap (slice s.place) (sym (take_all n s.elements g)) ∙ first_fits
-
-  pub from_fits : n ≤ length s.elements → part w n (length s.elements - n) s ≡ from_of w n s
+  pub from_cut : part w k (length s.elements - k) s ≡ from_of w n s
   unfolding from_of
-  from_fits h =
-      let e : n ≡ min n (length s.elements) = omega arith in
-      ap (λ (i : ℕ). part w i (length s.elements - n) s) e
+  from_cut =
+      let z : length s.elements - k ≡ length s.elements - n = omega arith in
+      ap₂ (λ (i m : ℕ). part w i m s) cut z
 
-  pub from_none :
-      length s.elements < n
-      → part w (length s.elements) (length s.elements - length s.elements) s ≡ from_of w n s
-  unfolding from_of
-  from_none h =
-      let e : length s.elements ≡ min n (length s.elements) = omega arith in
-      let z : length s.elements - length s.elements ≡ length s.elements - n = omega arith in
-      ap₂ (λ (i k : ℕ). part w i k s) e z
-
-module _ (w i j : ℕ) (s : Slice) where
-  no_length : length s.elements - length s.elements ≡ 0
-  no_length = omega arith
-
+module _ {A : Type 0} (w i j : ℕ) (s : Slice A) where
   pub between_fits : i ≤ j → j ≤ length s.elements → part w i (j - i) s ≡ between_of w i j s
   unfolding between_of
   between_fits h g = simp (le-leb i j h, le-leb j (length s.elements) g)
 
-  pub between_crossed :
-      j < i → part w (length s.elements) (length s.elements - length s.elements) s ≡ between_of w i j s
+  behind : length s.elements - length s.elements ≡ 0
+  behind = omega arith
+
+  pub between_none :
+      (i ≤ j → j ≤ length s.elements → ⊥) → part w (length s.elements) (length s.elements - length s.elements) s ≡ between_of w i j s
   unfolding between_of
-  between_crossed h = simp (lt-leb i j h) (ap (λ (k : ℕ). part w (length s.elements) k s) no_length)
+  between_none h =
+      by_lt j i
+      (λ g. simp (lt-leb i j g) (ap (λ (k : ℕ). part w (length s.elements) k s) behind))
+      (λ g.
+      by_lt (length s.elements) j
+      (λ p. simp (le-leb i j g, lt-leb j (length s.elements) p) (ap (λ (k : ℕ). part w (length s.elements) k s) behind))
+      (λ p. absurd (h g p)))
 
-  pub between_past :
-      i ≤ j → length s.elements < j
-      → part w (length s.elements) (length s.elements - length s.elements) s ≡ between_of w i j s
-  unfolding between_of
-  between_past h g =
-      simp (le-leb i j h, lt-leb j (length s.elements) g)
-      (ap (λ (k : ℕ). part w (length s.elements) k s) no_length)
-
--- a part of bytes begins as many bytes behind the slice as there are elements before it
-pub of_bytes : (i n : ℕ) (s : Slice) → slice (s.place.0, i + s.place.1) (take n (drop i s.elements)) ≡ part 1 i n s
-of_bytes i n s =
-    let e : i + s.place.1 ≡ i * 1 + s.place.1 = omega arith in
-    λ j. slice (s.place.0, e j) (take n (drop i s.elements))
-
--- the first n elements, and those from n on
-pub first_elements : (w n : ℕ) (s : Slice) → (first_of w n s).elements ≡ take n s.elements
-unfolding first_of
-first_elements w n s = refl
-
-pub from_elements : (w n : ℕ) (s : Slice) → (from_of w n s).elements ≡ drop n s.elements
+-- the elements from n on
+pub from_elements : {A : Type 0} (w n : ℕ) (s : Slice A) → (from_of w n s).elements ≡ drop n s.elements
 unfolding from_of
 from_elements w n s =
     let l = s.elements in
@@ -84,3 +65,7 @@ from_elements w n s =
     let e : min n (length l) ≡ n = omega arith in
     ap (λ (i : ℕ). take (length l - n) (drop i l)) e
     ∙ take_all (length l - n) (drop n l) (omega (arith, length-drop n l)))
+
+pub first_elements : {A : Type 0} (w n : ℕ) (s : Slice A) → (first_of w n s).elements ≡ take n s.elements
+unfolding first_of
+first_elements w n s = refl

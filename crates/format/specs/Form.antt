@@ -1,5 +1,5 @@
 -- The form of a record (docs/TRACE.md, "Records: one op byte, then its fields", and what makes it bad, at the page's end).
-use Rattle.std.specs.Prelude.{ℕ, ◌+◌, ◌*◌, List, [], ◌∷◌, Bool, false, cond, ◌||◌, ◌&&◌, ltb, leb, eqb, get_or}
+use Rattle.std.specs.Prelude.{ℕ, ◌+◌, ◌*◌, List, [], ◌∷◌, Bool, false, cond, ◌||◌, ◌&&◌, ltb, leb, eqb, get_or, Option, None, Some}
 use Rattle.base.specs.Bytes.{word_at}
 
 -- a field: a number of so many bytes; "A wrap or a flag field is one byte, 0 or 1"; one of "n, m and k", a u16, with the bytes
@@ -158,10 +158,14 @@ list_of s (p ∷ ps) = p.1 * word_at s p.0 2 + list_of s ps
 unfoldable pub list_bytes : ℕ → List ℕ → ℕ
 list_bytes op s = list_of s (counts_of 1 (fields_of op))
 
--- the bytes of the record at the start of s, its op included; 0 where it is bad ("an unknown record" among them)
-unfoldable pub length_of : List ℕ → ℕ → ℕ
+-- the bytes of an op and its fields, or none
+abbrev pub row_of : ℕ → Option ℕ
+row_of op = cond (eqb (fixed_of op) 0) None (Some (fixed_of op))
+
+-- the bytes of the record at the start of s, its op included; none where it is bad ("an unknown record" among them)
+unfoldable pub length_of : List ℕ → ℕ → Option ℕ
 length_of s region =
     let op = get_or s 0 0 in
     cond (eqb (fixed_of op) 0 || (bad_flags op s || bad_counts op s || bad_places op s region))
-    0
-    (fixed_of op + list_bytes op s)
+    None
+    (Some (fixed_of op + list_bytes op s))

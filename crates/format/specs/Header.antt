@@ -1,11 +1,10 @@
 -- A trace's header (docs/TRACE.md, "Header: ten u32"): "magic 0x31515650, size, table offset, driver event offset, device event
 -- offset, region length (at most 65,536), seed, hash_every, number of records, 0".
-use Rattle.std.specs.Prelude.{ℕ, ◌*◌, List, Bool, not, cond, ◌||◌, ltb, eqb, length}
+use Rattle.std.specs.Prelude.{ℕ, ◌*◌, List, Bool, not, cond, ◌||◌, ltb, eqb, length, Option, None, Some}
 use Rattle.base.specs.Bytes.{word_at}
 use Rattle.layout.specs.declared.Layout.{Layout}
 use Rattle.layout.specs.Layout.{layout}
-use Rattle.format.specs.declared.header.Found.{Found}
-use Rattle.format.specs.declared.header.Found.TheVariants as found
+use Rattle.format.specs.declared.header.Header.{Header}
 
 -- the header's number i, counted from 0
 abbrev pub number_of : ℕ → List ℕ → ℕ
@@ -19,12 +18,12 @@ bad_header s =
     || (not (eqb (number_of 0 s) 0x31515650)
     || (ltb 65535 (number_of 1 s) || ltb 65536 (number_of 5 s)))
 
--- what a run needs of a header: how long the region is, how often its hash is told, how many records follow; or bad
-unfoldable pub header_of : List ℕ → Found
+-- what a run needs of a header: how long the region is, how often its hash is told, how many records follow; or none, where it is bad
+unfoldable pub header_of : List ℕ → Option Header
 header_of s =
     cond (bad_header s)
-    found.Bad
-    (found.Header (record { region = number_of 5 s; every = number_of 7 s; records = number_of 8 s }))
+    None
+    (Some (record { region = number_of 5 s; every = number_of 7 s; records = number_of 8 s }))
 
 -- the number that the region's first bytes are made of
 unfoldable pub seed_of : List ℕ → ℕ

@@ -2,7 +2,6 @@
 ghost use Rattle.std.specs.Prelude.{◌≡◌};
 ghost use Rattle.format.specs.Forge as forged;
 
-use base::pick;
 use cursor::RingCursor;
 use layout::Layout;
 
@@ -16,38 +15,41 @@ pub fn low16(v: u64) -> u16
 pub fn half(old: u16, number: u8, field: u8, v: u64) -> u16
     ensures { result ≡ forged.half_of old number field v }
 {
-    pick::pick16(field == number, low16(v), old)
+    if field == number { low16(v) } else { old }
 }
 
-fn place(old: usize, number: u8, field: u8, v: u64) -> usize
-    ensures { result ≡ forged.offset_of old number field v }
-{
-    if field == number { v as usize } else { old }
-}
-
-fn bit(old: bool, number: u8, field: u8, v: u64) -> bool
-    ensures { result ≡ forged.wrap_of old number field v }
-{
-    if field == number { v % 2 == 1 } else { old }
-}
-
+#[tactic(auto, unfolding(crate::specs::Forge::geometry_of))]
 pub fn geometry(l: Layout, field: u8, v: u64) -> Layout
     ensures { result ≡ forged.geometry_of l field v }
 {
-    Layout {
-        table: place(l.table, 1, field, v),
-        driver: place(l.driver, 2, field, v),
-        device: place(l.device, 3, field, v),
-        size: half(l.size, 0, field, v),
+    match field {
+        0 => Layout {
+            size: low16(v),
+            ..l
+        },
+        1 => Layout {
+            table: v as usize,
+            ..l
+        },
+        2 => Layout {
+            driver: v as usize,
+            ..l
+        },
+        3 => Layout {
+            device: v as usize,
+            ..l
+        },
+        _ => l,
     }
 }
 
 // A cursor whose head and wrap have these numbers.
+#[tactic(auto, unfolding(crate::specs::Forge::cursor_of))]
 pub fn cursor(c: RingCursor, head: u8, wrap: u8, field: u8, v: u64) -> RingCursor
     ensures { result ≡ forged.cursor_of c head wrap field v }
 {
     RingCursor {
         head: half(c.head, head, field, v),
-        wrap: bit(c.wrap, wrap, field, v),
+        wrap: if field == wrap { v % 2 == 1 } else { c.wrap },
     }
 }

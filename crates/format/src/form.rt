@@ -1,11 +1,12 @@
 // What makes a record bad, whatever the ring's state: its op, its counts, its flags and the places that it names.
-// A record that is passed over is held to the same.
-ghost use Rattle.std.specs.Prelude.{◌≡◌, cond, ◌&&◌, ltb, eqb, get_or};
+// A record that is passed over is held to the same. An op stays the number that docs/TRACE.md names it by: the arms here
+// are rows of that page's table.
+ghost use Rattle.std.specs.Prelude.{◌≡◌, ltb, get_or};
 ghost use Rattle.base.specs.Bytes.{word_at};
-ghost use Rattle.format.specs.Form.{fixed_of, bad_flags, bad_counts, bad_places, is_past, list_bytes, length_of};
+ghost use Rattle.format.specs.Form.{row_of, bad_flags, bad_counts, bad_places, is_past, list_bytes, length_of};
 
 use crate::input;
-use base::pick;
+use base::bytes::Word;
 
 // The largest n, m and k.
 const COUNT: u16 = 4096;
@@ -13,144 +14,128 @@ const COUNT: u16 = 4096;
 // Entries of each lent table.
 pub const ENTRIES: u16 = 2048;
 
-// How many bytes the record at the start of s takes, its op included; 0 where it is bad. Whether so many are there
+// How many bytes the record at the start of s takes, its op included; none where it is bad. Whether so many are there
 // is the caller's to ask: past the end of s zeros are read.
-pub fn length(s: &[u8], region: usize) -> usize
+#[tactic(auto, unfolding(crate::specs::Form::length_of))]
+pub fn length(s: &[u8], region: usize) -> Option<usize>
     ensures { result ≡ length_of s.now region }
 {
-    let op = input::byte(s, 0);
-    let n = fixed(op);
-    if n == 0 {
-        return 0;
+    let n = fixed(op(s))?;
+    if flags_are_bad(s) || counts_are_bad(s) || places_are_bad(s, region) {
+        return None;
     }
-    if flags_are_bad(op, s) | counts_are_bad(op, s) | places_are_bad(op, s, region) {
-        return 0;
-    }
-    (n as usize) + (list(op, s) as usize)
+    Some(usize::from(n) + list(s) as usize)
 }
 
-// The op and the fields of fixed width; 0 for an op that is not there. Picks and no branches: the whole is one
-// expression over the op, which a test over all ops holds to the format's table.
-fn fixed(op: u8) -> u8
-    ensures { result ≡ fixed_of op }
+// The bytes of the op and the fields of fixed width; none for an op that is not there.
+#[tactic(auto, unfolding(crate::specs::Form::fixed_of, crate::specs::Form::rows))]
+fn fixed(op: u8) -> Option<u8>
+    ensures { result ≡ row_of op }
 {
-    let n = pick::pick8(is_bare(op), 1, 0);
-    let n = pick::pick8(op == 40, 2, n);
-    let n = pick::pick8(op == 105, 3, n);
-    let n = pick::pick8(
-        (op == 10) | (op == 13) | (op == 41) | (op == 44) | (op == 101),
-        4,
-        n,
-    );
-    let n = pick::pick8((op == 3) | (op == 4) | (op == 72) | (op == 104), 5, n);
-    let n = pick::pick8((op == 68) | (op == 73) | (op == 96), 6, n);
-    let n = pick::pick8(
-        (op == 34) | (op == 35) | (op == 64) | (op == 65) | (op == 102),
-        7,
-        n,
-    );
-    let n = pick::pick8((op == 97) | (op == 103), 8, n);
-    let n = pick::pick8((op == 66) | (op == 67) | (op == 70), 10, n);
-    let n = pick::pick8((108 <= op) & (op <= 111), 11, n);
-    let n = pick::pick8((op == 71) | (op == 98) | (op == 107), 13, n);
-    let n = pick::pick8((op == 1) | (op == 2), 14, n);
-    let n = pick::pick8(op == 106, 17, n);
-    let n = pick::pick8((op == 99) | (op == 100), 18, n);
-    let n = pick::pick8(op == 69, 25, n);
-    pick::pick8((op == 74) | (op == 75), 27, n)
+    match op {
+        5..=9 | 11 | 12 | 14 | 15 | 33 | 36..=39 | 42 | 43 | 45 | 46 => Some(1),
+        40 => Some(2),
+        105 => Some(3),
+        10 | 13 | 41 | 44 | 101 => Some(4),
+        3 | 4 | 72 | 104 => Some(5),
+        68 | 73 | 96 => Some(6),
+        34 | 35 | 64 | 65 | 102 => Some(7),
+        97 | 103 => Some(8),
+        66 | 67 | 70 => Some(10),
+        108..=111 => Some(11),
+        71 | 98 | 107 => Some(13),
+        1 | 2 => Some(14),
+        106 => Some(17),
+        99 | 100 => Some(18),
+        69 => Some(25),
+        74 | 75 => Some(27),
+        _ => None,
+    }
 }
 
-// An op with no fields.
-fn is_bare(op: u8) -> bool
-    ensures { result ≡ eqb (fixed_of op) 1 }
+fn op(s: &[u8]) -> u8
+    ensures { result ≡ get_or s.now 0 0 }
 {
-    ((5 <= op) & (op <= 9))
-        | (op == 11)
-        | (op == 12)
-        | (op == 14)
-        | (op == 15)
-        | (op == 33)
-        | ((36 <= op) & (op <= 39))
-        | (op == 42)
-        | (op == 43)
-        | (op == 45)
-        | (op == 46)
+    input::byte(s, 0)
 }
 
 // The bytes of the list that ends a record.
-fn list(op: u8, s: &[u8]) -> u32
-    ensures { result ≡ list_bytes op s.now }
+#[tactic(auto, unfolding(crate::specs::Form::list_bytes, crate::specs::Form::fields_of, crate::specs::Form::rows))]
+fn list(s: &[u8]) -> u32
+    ensures { result ≡ list_bytes (get_or s.now 0 0) s.now }
 {
-    12 * (count((op == 3) | (op == 4), s, 1) as u32)
-        + 8 * (count(op == 71, s, 1) as u32)
-        + 4 * (count(op == 71, s, 3) as u32)
-        + 2 * (count(op == 41, s, 2) as u32)
-        + (count(op == 64, s, 5) as u32)
+    match op(s) {
+        3 | 4 => 12 * u32::from(u16::read(s, 1)),
+        71 => 8 * u32::from(u16::read(s, 1)) + 4 * u32::from(u16::read(s, 3)),
+        41 => 2 * u32::from(u16::read(s, 2)),
+        64 => u32::from(u16::read(s, 5)),
+        _ => 0,
+    }
 }
 
-// The number at a place of a record that has one there, and 0 of another.
-fn count(has: bool, s: &[u8], k: usize) -> u16
-    ensures { result ≡ cond has (word_at s.now k 2) 0 }
+#[tactic(auto, unfolding(crate::specs::Form::bad_flags, crate::specs::Form::fields_of, crate::specs::Form::rows))]
+fn flags_are_bad(s: &[u8]) -> bool
+    ensures { result ≡ bad_flags (get_or s.now 0 0) s.now }
 {
-    pick::pick16(has, input::half(s, k), 0)
+    match op(s) {
+        1 | 2 => is_no_flag(s, 13),
+        10 | 13 | 44 | 101 => is_no_flag(s, 3),
+        70 => is_no_flag(s, 4) || is_no_flag(s, 7),
+        96 | 97 => is_no_flag(s, 5),
+        98 => is_no_flag(s, 9) || is_no_flag(s, 12),
+        99 | 100 => is_no_flag(s, 17),
+        103 => is_no_flag(s, 7),
+        _ => false,
+    }
 }
 
-fn flags_are_bad(op: u8, s: &[u8]) -> bool
-    ensures { result ≡ bad_flags op s.now }
+fn is_no_flag(s: &[u8], k: usize) -> bool
+    ensures { result ≡ ltb 1 (get_or s.now k 0) }
 {
-    is_no_flag((op == 1) | (op == 2), s, 13)
-        | is_no_flag((op == 10) | (op == 13) | (op == 44) | (op == 101), s, 3)
-        | is_no_flag(op == 70, s, 4)
-        | is_no_flag(op == 70, s, 7)
-        | is_no_flag((op == 96) | (op == 97), s, 5)
-        | is_no_flag(op == 98, s, 9)
-        | is_no_flag(op == 98, s, 12)
-        | is_no_flag((op == 99) | (op == 100), s, 17)
-        | is_no_flag(op == 103, s, 7)
+    1 < input::byte(s, k)
 }
 
-fn is_no_flag(has: bool, s: &[u8], k: usize) -> bool
-    ensures { result ≡ has && ltb 1 (get_or s.now k 0) }
+#[tactic(auto, unfolding(crate::specs::Form::bad_counts, crate::specs::Form::fields_of, crate::specs::Form::rows))]
+fn counts_are_bad(s: &[u8]) -> bool
+    ensures { result ≡ bad_counts (get_or s.now 0 0) s.now }
 {
-    has & (1 < input::byte(s, k))
+    match op(s) {
+        3 | 4 | 108..=111 => is_no_count(s, 1),
+        71 | 107 => is_no_count(s, 1) || is_no_count(s, 3),
+        41 => is_no_count(s, 2),
+        72 => is_no_count(s, 3),
+        73 => is_no_count(s, 4),
+        64 | 65 => is_no_count(s, 5),
+        _ => false,
+    }
 }
 
-fn counts_are_bad(op: u8, s: &[u8]) -> bool
-    ensures { result ≡ bad_counts op s.now }
+fn is_no_count(s: &[u8], k: usize) -> bool
+    ensures { result ≡ ltb 4096 (word_at s.now k 2) }
 {
-    is_no_count(
-        (op == 3) | (op == 4) | (op == 71) | ((107 <= op) & (op <= 111)),
-        s,
-        1,
-    ) | is_no_count(op == 41, s, 2)
-        | is_no_count((op == 71) | (op == 72) | (op == 107), s, 3)
-        | is_no_count(op == 73, s, 4)
-        | is_no_count((op == 64) | (op == 65), s, 5)
-}
-
-fn is_no_count(has: bool, s: &[u8], k: usize) -> bool
-    ensures { result ≡ has && ltb 4096 (word_at s.now k 2) }
-{
-    has & (COUNT < input::half(s, k))
+    COUNT < u16::read(s, k)
 }
 
 // Past the region or a table, or a field or a table that is not there.
-fn places_are_bad(op: u8, s: &[u8], region: usize) -> bool
-    ensures { result ≡ bad_places op s.now region }
+#[tactic(auto, unfolding(crate::specs::Form::bad_places))]
+fn places_are_bad(s: &[u8], region: usize) -> bool
+    ensures { result ≡ bad_places (get_or s.now 0 0) s.now region }
 {
     let which = input::byte(s, 1);
-    let n = ENTRIES as usize;
-    (((op == 64) | (op == 65)) & is_past(input::word(s, 1), input::half(s, 5), region))
-        | ((op == 66) & (10 < which))
-        | ((op == 67) & (9 < which))
-        | (((op == 68) | (op == 73)) & (2 < which))
-        | ((op == 68) & (ENTRIES <= input::half(s, 2)))
-        | ((op == 72) & is_past(input::half(s, 1) as u32, input::half(s, 3), n))
-        | ((op == 73) & is_past(input::half(s, 2) as u32, input::half(s, 4), n))
+    let n = usize::from(ENTRIES);
+    match op(s) {
+        64 | 65 => is_past(u32::read(s, 1), u16::read(s, 5), region),
+        66 => 10 < which,
+        67 => 9 < which,
+        68 => 2 < which || ENTRIES <= u16::read(s, 2),
+        72 => is_past(u32::from(u16::read(s, 1)), u16::read(s, 3), n),
+        73 => 2 < which || is_past(u32::from(u16::read(s, 2)), u16::read(s, 4), n),
+        _ => false,
+    }
 }
 
 fn is_past(start: u32, k: u16, length: usize) -> bool
     ensures { result ≡ is_past start k length }
 {
-    length < (start as usize) + (k as usize)
+    length < (start as usize) + usize::from(k)
 }

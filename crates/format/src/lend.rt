@@ -2,9 +2,10 @@
 ghost use Rattle.std.specs.Prelude.{◌≡◌};
 ghost use Rattle.format.specs.Lend.{whole_of, lent_of};
 
-use crate::{form, input, part};
+use crate::form;
+use base::bytes::Word;
 
-#[derive(Clone, Copy)]
+#[derive(Clone, Copy, PartialEq, Eq)]
 pub struct Lent {
     pub bytes: usize,
     pub ids: usize,
@@ -15,10 +16,11 @@ pub struct Lent {
 }
 
 // All of a region of so many bytes, and all of every table and output.
+#[tactic(auto, unfolding(crate::specs::Lend::whole_of))]
 pub fn whole(region: usize) -> Lent
     ensures { result ≡ whole_of region }
 {
-    let n = form::ENTRIES as usize;
+    let n = usize::from(form::ENTRIES);
     Lent {
         bytes: region,
         ids: n,
@@ -30,15 +32,16 @@ pub fn whole(region: usize) -> Lent
 }
 
 // What a record says; of the region no more than there is. The others are cut to their slices where they are lent.
+#[tactic(auto, unfolding(crate::specs::Lend::lent_of))]
 pub fn read(record: &[u8], region: usize) -> Lent
     ensures { result ≡ lent_of «record».now region }
 {
     Lent {
-        bytes: part::cut(input::word(record, 1) as usize, region),
-        ids: input::word(record, 5) as usize,
-        taken: input::word(record, 9) as usize,
-        held: input::word(record, 13) as usize,
-        addrs: input::word(record, 17) as usize,
-        lens: input::word(record, 21) as usize,
+        bytes: region.min(u32::read(record, 1) as usize),
+        ids: u32::read(record, 5) as usize,
+        taken: u32::read(record, 9) as usize,
+        held: u32::read(record, 13) as usize,
+        addrs: u32::read(record, 17) as usize,
+        lens: u32::read(record, 21) as usize,
     }
 }

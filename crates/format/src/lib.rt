@@ -1,7 +1,6 @@
 // The trace format as it is read: numbers, the header, the form of a record, what a trace lends and what it forges.
 #![tactic(auto)]
 
-pub mod fill;
 pub mod forge;
 pub mod form;
 pub mod header;

@@ -8,19 +8,14 @@ use mathlib.Core.Bool.{false}
 use native.Mathlib.Omega.{arith}
 use lib.ListN.{replicate, get_or-replicate}
 use denote.Ref.{Bor, MutBor}
+use Rattle.std.specs.Prelude.{Ok, Err}
 use Rattle.base.specs.Answer as answer
 use Rattle.cursor.specs.Cursor.{fresh}
 use Rattle.layout.specs.Layout.{layout}
 use Rattle.base.specs.declared.RingError.TheVariants.{BadRecord}
 use Rattle.producer.specs.declared.RingProducer.{RingProducer}
-use Rattle.producer.specs.declared.Opened.TheVariants as made_opened
-use Rattle.producer.specs.declared.Submitted.TheVariants as submitted_as
-use Rattle.producer.specs.declared.PolledUsed.TheVariants as returned_as
 use Rattle.producer.specs.Fresh as made
 use Rattle.producer.specs.Outcome as made_outcome
-use Rattle.consumer.specs.declared.Opened.TheVariants as taken_opened
-use Rattle.consumer.specs.declared.Polled.TheVariants as polled_as
-use Rattle.consumer.specs.declared.Answered.TheVariants as answered_as
 use Rattle.consumer.specs.declared.Checkpoint.{Checkpoint}
 use Rattle.consumer.specs.Fresh as taken
 use Rattle.consumer.specs.Poll as polling
@@ -56,7 +51,7 @@ abbrev opens_producer : made.Open
 opens_producer = made.open_of 2 0 32 36 (zeros 40) (zeros 2) (zeros 2)
 
 producer_meets :
-    made.opened (made.opened_answer (made_opened.Ring (made.fresh_of (geometry_of 2)))) opens_producer.ids opens_producer.counts ≡ opens_producer
+    made.opened (made.opened_answer (Ok (made.fresh_of (geometry_of 2)))) opens_producer.ids opens_producer.counts ≡ opens_producer
 unfolding computing
 producer_meets = refl
 
@@ -65,7 +60,7 @@ producer_new_lem =
     record {
       lifetimes = ([], ([], ([], tt)));
       entry = (2, (0, (32, (36, (lent (zeros 40), (lent_mut (zeros 2), (lent_mut (zeros 2), tt)))))));
-      result = made_opened.Ring (made.fresh_of (geometry_of 2));
+      result = Ok (made.fresh_of (geometry_of 2));
       exit = (2, (0, (32, (36, (lent (zeros 40), (lent_mut opens_producer.ids, (lent_mut opens_producer.counts, tt)))))));
       meets = producer_meets;
     }
@@ -77,7 +72,7 @@ found = replicate 40 1
 abbrev opens_consumer : taken.Open
 opens_consumer = taken.open_of 2 0 32 36 found (zeros 2)
 
-consumer_meets : taken.opened (taken.opened_answer (taken_opened.Ring (taken.fresh_of (geometry_of 2)))) opens_consumer.counts ≡ opens_consumer
+consumer_meets : taken.opened (taken.opened_answer (Ok (taken.fresh_of (geometry_of 2)))) opens_consumer.counts ≡ opens_consumer
 unfolding computing
 consumer_meets = refl
 
@@ -86,7 +81,7 @@ consumer_new_lem =
     record {
       lifetimes = ([], ([], tt));
       entry = (2, (0, (32, (36, (lent found, (lent_mut (zeros 2), tt))))));
-      result = taken_opened.Ring (taken.fresh_of (geometry_of 2));
+      result = Ok (taken.fresh_of (geometry_of 2));
       exit = (2, (0, (32, (36, (lent found, (lent_mut opens_consumer.counts, tt))))));
       meets = consumer_meets;
     }
@@ -127,7 +122,7 @@ submit =
       lifetimes = ([], ([], ([], tt)));
       entry =
           (w0.producer.end, (lent_mut w0.ring, (lent w0.producer.ids, (lent_mut w0.producer.counts, (4096, (16, (false, tt)))))));
-      result = submitted_as.Id 1 submits.end;
+      result = (submits.end, Ok 1);
       exit =
           (w0.producer.end, (lent_mut submits.ring, (lent w0.producer.ids, (lent_mut submits.counts, (4096, (16, (false, tt)))))));
       meets = submit_meets;
@@ -150,7 +145,7 @@ poll =
     consumers (consumer.real_poll_available (record {
       lifetimes = ([], ([], ([], ([], tt))));
       entry = (w1.consumer.end, (lent w1.ring, (lent_mut w1.consumer.counts, (lent_mut (zeros 2), (lent_mut (zeros 2), tt)))));
-      result = polled_as.Chain (record { id = 1; count = 1; readable = 1 }) polls.end;
+      result = (polls.end, Ok (record { id = 1; count = 1; readable = 1 }));
       exit = (w1.consumer.end, (lent w1.ring, (lent_mut polls.counts, (lent_mut polls.addrs, (lent_mut polls.lens, tt)))));
       meets = poll_meets;
     }))
@@ -175,7 +170,7 @@ stray =
     (producer.real_poll_used (record {
       lifetimes = ([], ([], ([], tt)));
       entry = (no_slots, (lent w2.ring, (lent_mut w2.producer.ids, (lent_mut w2.producer.counts, tt))));
-      result = returned_as.Refused BadRecord no_slots;
+      result = (no_slots, Err BadRecord);
       exit = (no_slots, (lent w2.ring, (lent_mut strays.ids, (lent_mut strays.counts, tt))));
       meets = stray_meets;
     }))
@@ -196,7 +191,7 @@ complete =
     consumers (consumer.real_submit_used (record {
       lifetimes = ([], ([], tt));
       entry = (w3.consumer.end, (lent_mut w3.ring, (lent_mut w3.consumer.counts, (1, (5, tt)))));
-      result = answered_as.Done completes.end;
+      result = (completes.end, Ok tt);
       exit = (w3.consumer.end, (lent_mut completes.ring, (lent_mut completes.counts, (1, (5, tt)))));
       meets = complete_meets;
     }))
@@ -218,7 +213,7 @@ reclaim =
     producers (producer.real_poll_used (record {
       lifetimes = ([], ([], ([], tt)));
       entry = (w4.producer.end, (lent w4.ring, (lent_mut w4.producer.ids, (lent_mut w4.producer.counts, tt))));
-      result = returned_as.Used (record { id = 1; len = 5 }) returns.end;
+      result = (returns.end, Ok (record { id = 1; len = 5 }));
       exit = (w4.producer.end, (lent w4.ring, (lent_mut returns.ids, (lent_mut returns.counts, tt))));
       meets = return_meets;
     }))

@@ -1,15 +1,16 @@
 -- A cursor moved in place (document 01, "What must change shape": "After the core, a cursor is also moved in place, as the
 -- Rust's `advance(&mut self)` does"). What a move does is said by `cursor`'s own definition, `advance_of`, refusal 7 too.
-use Rattle.std.specs.Prelude.{ℕ, cond, eqb}
-use Rattle.base.specs.Answer.{Answer, done, refused}
+use Rattle.std.specs.Prelude.{Result, ⊤}
+use Rattle.base.specs.declared.RingError.{RingError}
+use Rattle.base.specs.Answer.{Answer}
 use Rattle.cursor.specs.declared.RingCursor.{RingCursor}
-use Rattle.cursor.specs.Cursor.{values_of, Outcome, outcome}
+use Rattle.cursor.specs.Cursor.{Outcome, outcome, answer_of}
 
--- "a definition gives, for each of its cases, this paper's number and values": the answer that a number tells beside the cursor
--- that is left. 0 is success, whose values are the cursor's, and any other number is that refusal
-unfoldable pub told_by : ℕ → RingCursor → Answer
-told_by n c = cond (eqb n 0) (done (values_of c)) (refused n)
+-- "a definition gives, for each of its cases, this paper's number and values": the answer that a result tells beside the cursor
+-- that is left. A success has the cursor's values
+abbrev pub told_by : Result ⊤ RingError → RingCursor → Answer
+told_by r c = answer_of (c, r)
 
--- what a move leaves: the answer that its number tells, and the cursor
-abbrev pub outcome_of : ℕ → RingCursor → Outcome
-outcome_of n c = outcome (told_by n c) c
+-- what a move leaves: the answer that its result tells, and the cursor
+abbrev pub outcome_of : Result ⊤ RingError → RingCursor → Outcome
+outcome_of r c = outcome (told_by r c) c

@@ -1,10 +1,8 @@
 -- A ring's geometry (document 01, "When the ring says no", refusals 6, 7 and 8; VIRTIO 1.1, 2.7.10.1).
-use Rattle.std.specs.Prelude.{ℕ, ◌+◌, ◌*◌, ◌%◌, List, [], ◌∷◌, Bool, not, cond, ◌||◌, ltb, leb, eqb}
-use Rattle.base.specs.Refusals.{number_of}
-use Rattle.base.specs.Answer.{Answer, done, refused}
+use Rattle.std.specs.Prelude.{ℕ, ◌+◌, ◌*◌, ◌%◌, List, [], ◌∷◌, Bool, not, cond, ◌||◌, ltb, leb, eqb, Result}
+use Rattle.base.specs.declared.RingError.{RingError}
+use Rattle.base.specs.Answer.{Answer, done, refused, answer_by}
 use Rattle.layout.specs.declared.Layout.{Layout}
-use Rattle.layout.specs.declared.LaidOut.{LaidOut}
-use Rattle.layout.specs.declared.LaidOut.TheVariants.{At, Refused}
 
 -- a ring's number of slots, and the offsets of its table and of the driver's and the device's event area
 abbrev pub layout : ℕ → ℕ → ℕ → ℕ → Layout
@@ -46,7 +44,6 @@ values_of l = l.size ∷ l.table ∷ l.driver ∷ l.device ∷ []
 unfoldable pub open_of : Layout → ℕ → Answer
 open_of l bytes = cond (bad_layout l || outside l bytes) (refused 6) (done (values_of l))
 
--- the answer's cases, in the paper's number and values
-abbrev pub answer_of : LaidOut → Answer
-answer_of (At l) = done (values_of l)
-answer_of (Refused e) = refused (number_of e)
+-- the answer, in the paper's number and values
+abbrev pub answer_of : Result Layout RingError → Answer
+answer_of r = answer_by values_of r

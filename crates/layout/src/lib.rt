@@ -1,7 +1,7 @@
 // Where a ring's three areas are in the lent bytes.
 // The Rust's Layout (src/virtq/mod.rs of hyperlight-common 0.18.0) is not moved; this one stands in its place, with
 // document 01's tests.
-#![tactic(auto)]
+#![tactic(auto, unfolding(crate::specs::Layout::apart, crate::specs::Layout::bad_layout, crate::specs::Layout::outside))]
 
 ghost use Rattle.std.specs.Prelude.{◌≡◌};
 ghost use Rattle.layout.specs.Layout.{layout, apart, bad_layout, outside, answer_of, open_of};
@@ -9,7 +9,7 @@ ghost use Rattle.layout.specs.Layout.{layout, apart, bad_layout, outside, answer
 use base::{RingError, pick};
 
 // Offsets of the table of slots and of the two event areas, and the number of slots.
-#[derive(Clone, Copy)]
+#[derive(Clone, Copy, PartialEq, Eq)]
 pub struct Layout {
     pub table: usize,
     pub driver: usize,
@@ -17,22 +17,23 @@ pub struct Layout {
     pub size: u16,
 }
 
-#[derive(Clone, Copy)]
-pub enum LaidOut {
-    At(Layout),
-    Refused(RingError),
-}
-
 // n bytes from a, and m from b, do not overlap.
 fn are_apart(a: usize, n: usize, b: usize, m: usize) -> bool
     ensures { result ≡ apart a n b m }
 {
-    pick::ends_by(a, n, b) | pick::ends_by(b, m, a)
+    pick::ends_by(a, n, b) || pick::ends_by(b, m, a)
 }
 
 impl Layout {
     // The test at opening, over so many lent bytes.
-    pub fn new(size: u16, table: usize, driver: usize, device: usize, bytes: usize) -> LaidOut
+    #[tactic(auto, unfolding(crate::specs::Layout::open_of))]
+    pub fn new(
+        size: u16,
+        table: usize,
+        driver: usize,
+        device: usize,
+        bytes: usize,
+    ) -> Result<Layout, RingError>
         ensures { answer_of result ≡ open_of (layout size table driver device) bytes }
     {
         let l = Layout {
@@ -41,33 +42,34 @@ impl Layout {
             device,
             size,
         };
-        if l.is_bad() | l.is_outside(bytes) {
-            return LaidOut::Refused(RingError::InvalidLayout);
+        if l.is_bad() || l.is_outside(bytes) {
+            return Err(RingError::InvalidLayout);
         }
-        LaidOut::At(l)
+        Ok(l)
     }
 
     // A stored geometry that no opening would have taken, whatever it was lent.
     pub fn is_bad(self) -> bool
         ensures { result ≡ bad_layout self }
     {
-        let span = (self.size as usize) * 16;
-        (self.size == 0)
-            | ((32768 < self.size)
-                | ((self.table % 16 != 0)
-                    | ((self.driver % 4 != 0)
-                        | ((self.device % 4 != 0)
-                            | (!are_apart(self.table, span, self.driver, 4)
-                                | (!are_apart(self.table, span, self.device, 4)
-                                    | !are_apart(self.driver, 4, self.device, 4)))))))
+        let span = usize::from(self.size) * 16;
+        self.size == 0
+            || self.size > 32768
+            || self.table % 16 != 0
+            || self.driver % 4 != 0
+            || self.device % 4 != 0
+            || !are_apart(self.table, span, self.driver, 4)
+            || !are_apart(self.table, span, self.device, 4)
+            || !are_apart(self.driver, 4, self.device, 4)
     }
 
     // Are so many bytes too few for the three areas?
     pub fn is_outside(self, bytes: usize) -> bool
         ensures { result ≡ outside self bytes }
     {
-        let span = (self.size as usize) * 16;
+        let span = usize::from(self.size) * 16;
         !pick::ends_by(self.table, span, bytes)
-            | (!pick::ends_by(self.driver, 4, bytes) | !pick::ends_by(self.device, 4, bytes))
+            || !pick::ends_by(self.driver, 4, bytes)
+            || !pick::ends_by(self.device, 4, bytes)
     }
 }

@@ -1,17 +1,18 @@
 // The geometry: sizes, places, overlaps and ends.
-use layout::{LaidOut, Layout};
+use base::RingError;
+use layout::Layout;
 use say::{bit, refusal};
 
-fn opened(l: LaidOut) -> u64 {
+fn opened(l: Result<Layout, RingError>) -> u64 {
     match l {
-        LaidOut::At(_) => 0,
-        LaidOut::Refused(e) => refusal(e.number(), 0),
+        Ok(_) => 0,
+        Err(e) => refusal(e.number(), 0),
     }
 }
 
 // A table at 0, then the driver's event and the device's.
 fn sized(size: u16, bytes: usize, want: u64) {
-    let end = 16 * (size as usize);
+    let end = 16 * usize::from(size);
     let l = Layout::new(size, 0, end, end + 4, bytes);
     say::case(b"size", opened(l), want);
 }

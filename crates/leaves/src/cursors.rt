@@ -1,17 +1,16 @@
 // The cursor. What a move gives is twice the head and the wrap, and 1,000,000 for each number of a refusal.
-use cursor::{Advanced, RingCursor};
+use base::RingError;
+use cursor::RingCursor;
 use say::bit;
 
 fn code(c: RingCursor) -> u64 {
-    std::num::wrapping_add_u64(2 * (c.head() as u64), bit(c.wrap()))
+    (2 * u64::from(c.head())).wrapping_add(bit(c.wrap()))
 }
 
-fn moved(a: Advanced) -> u64 {
-    match a {
-        Advanced::To(c) => code(c),
-        Advanced::Refused(e, c) => {
-            std::num::wrapping_add_u64(1000000 * (e.number() as u64), code(c))
-        }
+fn moved((c, answer): (RingCursor, Result<(), RingError>)) -> u64 {
+    match answer {
+        Ok(()) => code(c),
+        Err(e) => (1000000 * u64::from(e.number())).wrapping_add(code(c)),
     }
 }
 
@@ -36,9 +35,8 @@ fn kept(size: u16, head: u16, wrap: bool, n: u16, want: u64) {
 }
 
 fn lent(size: u16, head: u16, wrap: bool, n: u16, want: u64) {
-    let m = in_place::advance_own(RingCursor { head, wrap }, size, n);
-    let seen = std::num::wrapping_add_u64(1000000 * (m.number as u64), code(m.cursor));
-    say::case(b"in_place", seen, want);
+    let c = RingCursor { head, wrap };
+    say::case(b"in_place", moved(in_place::advance_own(c, size, n)), want);
 }
 
 fn fresh(head: u16, wrap: bool, want: u64) {

@@ -24,20 +24,14 @@ fn main() {
 // A number of the table, given its name and asked for its number again.
 fn numbered(n: u8, want: u64) {
     let e = base::RingError::numbered(n);
-    say::case(b"numbered", e.number() as u64, want);
+    say::case(b"numbered", u64::from(e.number()), want);
 }
 
 // The nine refusals; a number that the table has not is taken for 9.
 fn numbers() {
-    numbered(1, 1);
-    numbered(2, 2);
-    numbered(3, 3);
-    numbered(4, 4);
-    numbered(5, 5);
-    numbered(6, 6);
-    numbered(7, 7);
-    numbered(8, 8);
-    numbered(9, 9);
+    for n in 1..10 {
+        numbered(n, u64::from(n));
+    }
     numbered(0, 9);
     numbered(10, 9);
     numbered(255, 9);

@@ -13,20 +13,17 @@ fn tested(flags: u16, want: u64) {
 
 fn avail(flags: u16, wrap: bool, want: u64) {
     let d = Descriptor::new(0, 0, 0, flags).mark_avail(wrap);
-    say::case(b"mark_avail", d.flags as u64, want);
+    say::case(b"mark_avail", u64::from(d.flags), want);
 }
 
 fn used(flags: u16, wrap: bool, want: u64) {
     let d = Descriptor::new(0, 0, 0, flags).mark_used(wrap);
-    say::case(b"mark_used", d.flags as u64, want);
+    say::case(b"mark_used", u64::from(d.flags), want);
 }
 
 fn read(flags: u16, want: u64) {
-    say::case(
-        b"flags",
-        Descriptor::new(0, 0, 0, flags).flags() as u64,
-        want,
-    );
+    let d = Descriptor::new(0, 0, 0, flags);
+    say::case(b"flags", u64::from(d.flags()), want);
 }
 
 // Every bit alone, then all, and all but the five.

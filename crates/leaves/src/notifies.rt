@@ -1,50 +1,53 @@
 // The notify test: 0 no, 1 yes, a refusal by 1,000 for each number.
+use base::RingError;
 use cursor::RingCursor;
 use event::EventSuppression;
-use notify::Notified;
 use say::{bit, refusal};
 
-fn answer(n: Notified) -> u64 {
+fn answer(n: Result<bool, RingError>) -> u64 {
     match n {
-        Notified::Notify(b) => bit(b),
-        Notified::Refused(e) => refusal(e.number(), 0),
+        Ok(b) => bit(b),
+        Err(e) => refusal(e.number(), 0),
     }
+}
+
+// A cursor in round true.
+fn at(head: u16) -> RingCursor {
+    RingCursor { head, wrap: true }
+}
+
+fn asked(name: &[u8], e: EventSuppression, size: u16, old: u16, new: u16, want: u64) {
+    let n = notify::should_notify(e, size, at(old), at(new));
+    say::case(name, answer(n), want);
 }
 
 // Size 8, from (2, true) to (5, true).
 fn told(off_wrap: u16, flags: u16, want: u64) {
-    let old = RingCursor {
-        head: 2,
-        wrap: true,
-    };
-    let new = RingCursor {
-        head: 5,
-        wrap: true,
-    };
-    let n = notify::should_notify(EventSuppression::new(off_wrap, flags), 8, old, new);
-    say::case(b"notify", answer(n), want);
+    asked(
+        b"notify",
+        EventSuppression::new(off_wrap, flags),
+        8,
+        2,
+        5,
+        want,
+    );
 }
 
 // DESC at (0, true), from a head to another in round true.
 fn over(size: u16, old: u16, new: u16, want: u64) {
-    let from = RingCursor {
-        head: old,
-        wrap: true,
-    };
-    let to = RingCursor {
-        head: new,
-        wrap: true,
-    };
-    let n = notify::should_notify(EventSuppression::new(32768, 2), size, from, to);
-    say::case(b"heads", answer(n), want);
+    asked(
+        b"heads",
+        EventSuppression::new(32768, event::DESC),
+        size,
+        old,
+        new,
+        want,
+    );
 }
 
 fn need(event: u16, new: u16, old: u16, want: u64) {
-    say::case(
-        b"ring_need_event",
-        bit(notify::ring_need_event(event, new, old)),
-        want,
-    );
+    let told = notify::ring_need_event(event, new, old);
+    say::case(b"ring_need_event", bit(told), want);
 }
 
 // Every value of the flags, and DESC around the slots passed.

@@ -2,16 +2,21 @@
 ghost use Rattle.std.specs.Prelude.{◌≤◌};
 
 use crate::seen::outcome;
+use chain::BufferChain;
 use say::bit;
 
 // The first n of three addresses and the first m of three lengths.
 fn checked(n: usize, m: usize, readable: usize, want: u64) {
     let addrs = [1u64, 2, 3];
     let lens = [4u32, 5, 6];
-    let a = chain::addrs::readables(&addrs, n);
-    let l = chain::lens::readables(&lens, m);
-    let r = chain::check(a, l, readable);
-    say::case(b"check", outcome(r, 0), want);
+    let a = chain::readables(&addrs, n);
+    let l = chain::readables(&lens, m);
+    let chain = BufferChain {
+        addrs: a,
+        lens: l,
+        readable,
+    };
+    say::case(b"check", outcome(chain.check(), 0), want);
 }
 
 fn lengths(n: usize, m: usize, readable: usize, want: u64) {
@@ -22,17 +27,18 @@ fn lengths(n: usize, m: usize, readable: usize, want: u64) {
 fn parted(readable: usize, want: u64) {
     let addrs = [1u64, 2, 3];
     let lens = [4u32, 5, 6];
-    let a = few(chain::addrs::readables(&addrs, readable).len());
-    let b = few(chain::addrs::writables(&addrs, readable).len());
-    let c = few(chain::lens::readables(&lens, readable).len());
-    let d = few(chain::lens::writables(&lens, readable).len());
+    let a = few(chain::readables(&addrs, readable));
+    let b = few(chain::writables(&addrs, readable));
+    let c = few(chain::readables(&lens, readable));
+    let d = few(chain::writables(&lens, readable));
     say::case(b"parts", a + 10 * b + 100 * c + 1000 * d, want);
 }
 
-fn few(n: usize) -> u64
+// How many a part has, where there are no more than 9.
+fn few<T>(part: &[T]) -> u64
     ensures { result ≤ 9 }
 {
-    if n < 9 { n as u64 } else { 9 }
+    part.len().min(9) as u64
 }
 
 // 8 for slices of unequal length and for a readable count above it.

@@ -6,20 +6,24 @@ use say::bit;
 // Offset, wrap and flags of two words: the flags' word behind a set_flags, 10 for each.
 fn seen(off_wrap: u16, flags: u16, want: u64) {
     let e = EventSuppression::new(off_wrap, flags);
-    let low = 10 * bit(e.desc_event_wrap()) + e.flags() as u64;
-    say::case(b"event", 100 * (e.desc_event_off() as u64) + low, want);
+    let low = 10 * bit(e.desc_event_wrap()) + u64::from(e.flags());
+    say::case(b"event", 100 * u64::from(e.desc_event_off()) + low, want);
 }
 
 fn flagged(flags: u16, new: u16, want: u64) {
     let e = EventSuppression::new(65535, flags).set_flags(new);
     let kept = bit(e.off_wrap == 65535);
-    say::case(b"set_flags", e.flags as u64 + 100000 * kept, want);
+    say::case(b"set_flags", u64::from(e.flags) + 100000 * kept, want);
 }
 
 fn armed(flags: u16, off: u16, wrap: bool, want: u64) {
     let e = EventSuppression::new(9, flags).set_desc_event(off, wrap);
     let kept = bit(e.flags == flags);
-    say::case(b"set_desc_event", e.off_wrap as u64 + 100000 * kept, want);
+    say::case(
+        b"set_desc_event",
+        u64::from(e.off_wrap) + 100000 * kept,
+        want,
+    );
 }
 
 // Six lent bytes, each 7: what a write at a place leaves at another.
@@ -36,18 +40,14 @@ fn cleared(at: usize, look: usize, want: u64) {
 }
 
 fn read(at: usize, want: u64) {
-    let ring = [7u8; 6];
-    say::case(
-        b"read",
-        EventSuppression::read(&ring, at).flags as u64,
-        want,
-    );
+    let e = EventSuppression::read(&[7; 6], at);
+    say::case(b"read", u64::from(e.flags), want);
 }
 
 fn back(off_wrap: u16, flags: u16, want: u64) {
-    let e = EventSuppression::decode(EventSuppression::new(off_wrap, flags).encode());
-    let same = (e.off_wrap == off_wrap) & (e.flags == flags);
-    say::case(b"decode", bit(same), want);
+    let e = EventSuppression { off_wrap, flags };
+    let b = EventSuppression::new(off_wrap, flags).encode();
+    say::case(b"decode", bit(EventSuppression::decode(b) == e), want);
 }
 
 // Flags in two bits, the offset in fifteen, the wrap above it.

@@ -1,6 +1,6 @@
 // Descriptors as bytes, slots of lent bytes, and the table.
 use crate::seen::{byte, outcome};
-use desc::{DescAddr, DescTable, Descriptor};
+use desc::{DescTable, Descriptor};
 use say::bit;
 
 // A descriptor each of whose bytes is its place and one.
@@ -15,9 +15,14 @@ fn encoded(place: usize, want: u64) {
 
 // 1 where all four fields come back.
 fn back(addr: u64, len: u32, id: u16, flags: u16, want: u64) {
-    let d = Descriptor::decode(Descriptor::new(addr, len, id, flags).encode());
-    let same = (d.addr == addr) & ((d.len == len) & ((d.id == id) & (d.flags == flags)));
-    say::case(b"decode", bit(same), want);
+    let d = Descriptor {
+        addr,
+        len,
+        id,
+        flags,
+    };
+    let b = Descriptor::new(addr, len, id, flags).encode();
+    say::case(b"decode", bit(Descriptor::decode(b) == d), want);
 }
 
 // Thirty-three lent bytes, each 7: what a store at a place leaves at another.
@@ -41,10 +46,8 @@ fn cleared(base: usize, len: usize, look: usize, want: u64) {
 
 // The slot's place, or 777.
 fn placed(base: usize, len: usize, idx: u16, want: u64) {
-    match DescTable::from_raw_parts(base, len).desc_addr(idx) {
-        DescAddr::At(p) => say::case(b"desc_addr", p as u64, want),
-        DescAddr::Nowhere => say::case(b"desc_addr", 777, want),
-    }
+    let place = DescTable::from_raw_parts(base, len).desc_addr(idx);
+    say::case(b"desc_addr", place.unwrap_or(777) as u64, want);
 }
 
 // What a table says of itself.

@@ -1,3 +1,4 @@
 pub mod Texts
+pub mod Said
 pub mod Examples
 pub mod Fixed

@@ -1,35 +1,40 @@
 -- A call's answer as a line has it (docs/TRACE.md, "Output": "for each record `op status values... HASH`").
-use Rattle.std.specs.Prelude.{ℕ, List, [], ◌∷◌, not, cond, eqb, length, get_or, take}
+use Rattle.std.specs.Prelude.{ℕ, List, [], ◌∷◌, min, length, get_or, take, replicate, Result, Ok, Err}
+use Rattle.std.proofs.lemmas.List.Edits.{sets}
+use Rattle.base.specs.declared.RingError.{RingError}
 use Rattle.base.specs.Answer as calls
-use Rattle.lines.specs.declared.answer.Answer.{Answer}
+use Rattle.lines.specs.declared.answer.Values.{Values}
 
--- "Status 0 is success; 1 to 9 are document 01's refusals, with no values": the number is the status, and up to five values stand
--- in five fields, zeros where there are fewer
-abbrev pub line_of : calls.Answer → Answer
-line_of x =
-    record {
-      a = get_or x.values 0 0;
-      b = get_or x.values 1 0;
-      c = get_or x.values 2 0;
-      d = get_or x.values 3 0;
-      e = get_or x.values 4 0;
-      count = length x.values;
-      status = x.number;
-    }
+abbrev pub Answer : Type 0
+Answer = Result Values RingError
 
--- so many of an answer's values
-abbrev pub counted_of : Answer → ℕ → Answer
-counted_of x n = record { a = x.a; b = x.b; c = x.c; d = x.d; e = x.e; count = n; status = x.status }
+-- up to five values, with zeros where there are fewer
+abbrev pub held : List ℕ → Values
+held vs = record { list = sets (replicate 5 0) 0 (take 5 vs); count = min (length vs) 5 }
 
--- the values that there are
+abbrev pub first_of : Values → ℕ
+first_of v = get_or v.list 0 0
+
+-- a call's answer: a success with the values that `f` reads off what it hands back, or the refusal
+abbrev pub line_by : {A : Type 0} → (A → List ℕ) → Result A RingError → Answer
+line_by f (Ok x) = Ok (held (f x))
+line_by f (Err e) = Err e
+
+-- "Status 0 is success; 1 to 9 are document 01's refusals, with no values": the status is the answer's number in document 01's
+-- terms, and the values are its values
+abbrev pub call_of : Answer → calls.Answer
+call_of a = calls.answer_by (λ v. take v.count v.list) a
+
+abbrev pub status_of : Answer → ℕ
+status_of a = (call_of a).number
+
 abbrev pub values_of : Answer → List ℕ
-values_of x = take x.count (x.a ∷ x.b ∷ x.c ∷ x.d ∷ x.e ∷ [])
+values_of a = (call_of a).values
 
 -- ops 7 and 37, "the four": four answers of one value as one, or the first refusal among them
 unfoldable pub four_of : Answer → Answer → Answer → Answer → Answer
-four_of w x y z =
-    cond (not (eqb w.status 0)) w
-    (cond (not (eqb x.status 0)) x
-    (cond (not (eqb y.status 0)) y
-    (cond (not (eqb z.status 0)) z
-    (line_of (calls.done (w.a ∷ x.a ∷ y.a ∷ z.a ∷ []))))))
+four_of (Err e) x y z = Err e
+four_of (Ok w) (Err e) y z = Err e
+four_of (Ok w) (Ok x) (Err e) z = Err e
+four_of (Ok w) (Ok x) (Ok y) (Err e) = Err e
+four_of (Ok w) (Ok x) (Ok y) (Ok z) = Ok (held (first_of w ∷ first_of x ∷ first_of y ∷ first_of z ∷ []))

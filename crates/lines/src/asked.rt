@@ -1,35 +1,22 @@
 // What is asked of a record, as a line's answer. Both ends are asked alike.
-ghost use Rattle.std.specs.Prelude.{◌≡◌};
-ghost use Rattle.ring.specs.Asked.{count_answer, bool_answer, cursor_answer};
-ghost use Rattle.lines.specs.Line.{line_of};
+ghost use Rattle.std.specs.Prelude.{◌≡◌, [], ◌∷◌};
+ghost use Rattle.cursor.specs.Cursor as cursors;
+ghost use Rattle.lines.specs.Line.{line_by};
 
-use crate::answer;
-use crate::answer::Answer;
-use ring::{AskedBool, AskedCount, AskedCursor};
+use crate::answer::{Answer, Number, Values};
+use base::RingError;
+use cursor::RingCursor;
 
-pub fn count(a: AskedCount) -> Answer
-    ensures { result ≡ line_of (count_answer a) }
+// A number, or a yes or no.
+pub fn value<V: Number>(a: Result<V, RingError>) -> Answer
+    ensures { result ≡ line_by (λ x. V.value x ∷ []) a }
 {
-    match a {
-        AskedCount::Is(n) => Answer::one(n as u64),
-        AskedCount::Refused(e) => Answer::refused(e),
-    }
+    Ok(Values::of([a?.into()]))
 }
 
-pub fn flag(a: AskedBool) -> Answer
-    ensures { result ≡ line_of (bool_answer a) }
+pub fn cursor(a: Result<RingCursor, RingError>) -> Answer
+    ensures { result ≡ line_by cursors.values_of a }
 {
-    match a {
-        AskedBool::Is(b) => Answer::one(answer::bit(b)),
-        AskedBool::Refused(e) => Answer::refused(e),
-    }
-}
-
-pub fn cursor(a: AskedCursor) -> Answer
-    ensures { result ≡ line_of (cursor_answer a) }
-{
-    match a {
-        AskedCursor::At(c) => Answer::two(c.head as u64, answer::bit(c.wrap)),
-        AskedCursor::Refused(e) => Answer::refused(e),
-    }
+    let c = a?;
+    Ok(Values::of([c.head.into(), c.wrap.into()]))
 }

@@ -1,134 +1,90 @@
-// A line's numbers in decimal, put into a lent buffer from a place on. Each function answers the next place, or `text::LOST`
-// where a number did not fit: whoever writes the buffer out sees to it that a longest line fits, and ends the run where one
-// did not.
-ghost use Rattle.std.specs.Prelude.{◌≡◌, [], ◌∷◌};
+// A line's numbers in decimal. Where a number did not fit, the line is at `text::LOST`: whoever writes the buffer out sees to
+// it that a longest line fits, and ends the run where one did not.
+ghost use Rattle.std.specs.Prelude.{◌≡◌, [], ◌∷◌, map};
 ghost use Rattle.base.specs.Refusals as refusals;
-ghost use Rattle.base.specs.Answer.{bit};
-ghost use Rattle.lines.specs.Line.{values_of};
-ghost use Rattle.text.specs.Text.{written, put_text};
+ghost use Rattle.text.specs.Text.{put_text};
+ghost use Rattle.text.specs.Line.{written_in};
+ghost use Rattle.lines.specs.Line.{status_of, values_of};
 ghost use Rattle.lines.specs.Text.{ending, bad_line, put_values, pairs_of};
 
-use crate::answer;
-use crate::answer::Answer;
-use base::{RingError, bytes, pick};
+use crate::answer::{Answer, Number};
+use base::{RingError, pick};
 use format::part;
+use text::Line;
 
 // A number that another follows.
-pub fn value(out: &mut [u8], n: usize, x: u64) -> usize
-    ensures { written result out.new ≡ put_values (x ∷ []) (written n out.old) }
+#[tactic(auto, unfolding(crate::specs::Text::put_values))]
+pub fn value<V: Number>(line: &mut Line<'_>, x: V)
+    ensures lent { line.new.out.ghost_name ≡ line.old.out.ghost_name }
+    ensures text { written_in line.new ≡ put_values (V.value x ∷ []) (written_in line.old) }
 {
-    text::number(out, n, x, b' ')
-}
-
-pub fn value8(out: &mut [u8], n: usize, x: u8) -> usize
-    ensures { written result out.new ≡ put_values (x ∷ []) (written n out.old) }
-{
-    value(out, n, x as u64)
-}
-
-pub fn value32(out: &mut [u8], n: usize, x: u32) -> usize
-    ensures { written result out.new ≡ put_values (x ∷ []) (written n out.old) }
-{
-    value(out, n, x as u64)
-}
-
-pub fn value16(out: &mut [u8], n: usize, x: u16) -> usize
-    ensures { written result out.new ≡ put_values (x ∷ []) (written n out.old) }
-{
-    value(out, n, x as u64)
-}
-
-pub fn flag(out: &mut [u8], n: usize, b: bool) -> usize
-    ensures { written result out.new ≡ put_values (bit b ∷ []) (written n out.old) }
-{
-    value(out, n, answer::bit(b))
+    line.number(x.into(), b' ');
 }
 
 // The last number of a line.
-pub fn last(out: &mut [u8], n: usize, x: u64) -> usize
-    ensures { written result out.new ≡ put_text (ending x) (written n out.old) }
+pub fn last(line: &mut Line<'_>, x: u64)
+    ensures lent { line.new.out.ghost_name ≡ line.old.out.ghost_name }
+    ensures text { written_in line.new ≡ put_text (ending x) (written_in line.old) }
 {
-    text::number(out, n, x, b'\n')
+    line.number(x, b'\n');
 }
 
 // A line's start: the op and its status.
-pub fn start(out: &mut [u8], n: usize, op: u8, status: u8) -> usize
-    ensures { written result out.new ≡ put_values (op ∷ status ∷ []) (written n out.old) }
+#[tactic(auto, unfolding(crate::specs::Text::put_values))]
+pub fn start(line: &mut Line<'_>, op: u8, status: u8)
+    ensures lent { line.new.out.ghost_name ≡ line.old.out.ghost_name }
+    ensures text { written_in line.new ≡ put_values (op ∷ status ∷ []) (written_in line.old) }
 {
-    let n = value8(out, n, op);
-    value8(out, n, status)
+    value(line, op);
+    value(line, status);
 }
 
-pub fn refused(out: &mut [u8], n: usize, op: u8, e: RingError) -> usize
-    ensures { written result out.new ≡ put_values (op ∷ refusals.number_of e ∷ []) (written n out.old) }
+pub fn refused(line: &mut Line<'_>, op: u8, e: RingError)
+    ensures lent { line.new.out.ghost_name ≡ line.old.out.ghost_name }
+    ensures text { written_in line.new ≡ put_values (op ∷ refusals.number_of e ∷ []) (written_in line.old) }
 {
-    start(out, n, op, e.number())
+    start(line, op, e.number());
 }
 
 // A line from its op to its last value.
-pub fn answer(out: &mut [u8], n: usize, op: u8, a: Answer) -> usize
-    ensures { written result out.new ≡ put_values (op ∷ a.status ∷ values_of a) (written n out.old) }
+pub fn answer(line: &mut Line<'_>, op: u8, a: Answer)
+    ensures lent { line.new.out.ghost_name ≡ line.old.out.ghost_name }
+    ensures text { written_in line.new ≡ put_values (op ∷ status_of a ∷ values_of a) (written_in line.old) }
 {
-    let n = start(out, n, op, a.status);
-    let v = [a.a, a.b, a.c, a.d, a.e];
-    values64(out, n, part::first64(&v, a.count as usize))
+    match a {
+        Ok(v) => {
+            start(line, op, 0);
+            values(line, part::first(&v.list, v.count));
+        }
+        Err(e) => refused(line, op, e),
+    }
 }
 
 // The run's last line.
-pub fn bad(out: &mut [u8], n: usize) -> usize
-    ensures { written result out.new ≡ put_text bad_line (written n out.old) }
+#[tactic(auto, unfolding(text::specs::Text::words))]
+pub fn bad(line: &mut Line<'_>)
+    ensures lent { line.new.out.ghost_name ≡ line.old.out.ghost_name }
+    ensures text { written_in line.new ≡ put_text bad_line (written_in line.old) }
 {
-    text::put(out, n, b"bad\n")
+    line.put(b"bad\n");
 }
 
-pub fn values8(out: &mut [u8], n: usize, s: &[u8]) -> usize
-    ensures { written result out.new ≡ put_values s.now (written n out.old) }
+pub fn values<V: Number>(line: &mut Line<'_>, s: &[V])
+    ensures lent { line.new.out.ghost_name ≡ line.old.out.ghost_name }
+    ensures text { written_in line.new ≡ put_values (map V.value s.now) (written_in line.old) }
 {
-    let mut n = n;
-    for k in 0..s.len() {
-        n = value8(out, n, s[k]);
+    for x in s {
+        value(line, *x);
     }
-    n
 }
 
-pub fn values16(out: &mut [u8], n: usize, s: &[u16]) -> usize
-    ensures { written result out.new ≡ put_values s.now (written n out.old) }
+// Each address with its length. Two slices, and none of pairs: they are what a poll is lent and fills.
+pub fn pairs(line: &mut Line<'_>, addrs: &[u64], lens: &[u32])
+    ensures lent { line.new.out.ghost_name ≡ line.old.out.ghost_name }
+    ensures text { written_in line.new ≡ put_values (pairs_of addrs.now lens.now) (written_in line.old) }
 {
-    let mut n = n;
-    for k in 0..s.len() {
-        n = value16(out, n, s[k]);
+    for (k, addr) in addrs.iter().enumerate() {
+        value(line, *addr);
+        value(line, pick::at(lens, k, 0));
     }
-    n
-}
-
-pub fn values32(out: &mut [u8], n: usize, s: &[u32]) -> usize
-    ensures { written result out.new ≡ put_values s.now (written n out.old) }
-{
-    let mut n = n;
-    for k in 0..s.len() {
-        n = value32(out, n, s[k]);
-    }
-    n
-}
-
-pub fn values64(out: &mut [u8], n: usize, s: &[u64]) -> usize
-    ensures { written result out.new ≡ put_values s.now (written n out.old) }
-{
-    let mut n = n;
-    for k in 0..s.len() {
-        n = value(out, n, s[k]);
-    }
-    n
-}
-
-// Each address with its length.
-pub fn pairs(out: &mut [u8], n: usize, addrs: &[u64], lens: &[u32]) -> usize
-    ensures { written result out.new ≡ put_values (pairs_of addrs.now lens.now) (written n out.old) }
-{
-    let mut n = n;
-    for k in 0..addrs.len() {
-        n = value(out, n, addrs[k]);
-        n = value32(out, n, pick::at32(lens, k));
-    }
-    n
 }

@@ -1,12 +1,11 @@
 -- Subtraction that wraps at 65,536, and the decision by its cases.
 -- Assumes nothing.
-use Rattle.std.proofs.Common.{◌≡◌, ℕ, ◌+◌, ◌-◌, ◌<◌, ◌≤◌, true, false, ◌||◌, leb, [], ◌∷◌, arith, eq-eqb, le-leb}
+use Rattle.std.proofs.Common.{◌≡◌, ℕ, ◌+◌, ◌-◌, ◌<◌, ◌≤◌, true, false, arith, eq-eqb, le-leb}
 use borrow.Author.Tests.{lt-leb}
-use Rattle.base.specs.Answer.{done, refused, bit}
 use Rattle.cursor.specs.declared.RingCursor.{RingCursor}
 use Rattle.event.specs.declared.EventSuppression.{EventSuppression}
 use Rattle.event.specs.Event.{ENABLE, DISABLE, DESC, flags_of, off_of}
-use Rattle.notify.specs.Notify.{sub16, need_event, awaited, notify_of, should_notify_of}
+use Rattle.notify.specs.Notify.{sub16, need_event, awaited, notify_of}
 
 pub sub16_le : (a b : ℕ) → b ≤ a → a < 65536 → sub16 a b ≡ a - b
 unfolding sub16
@@ -37,14 +36,3 @@ module _ (e : EventSuppression) (size : ℕ) (old new : RingCursor) where
       flags_of e ≡ DESC → off_of e < size → notify_of e size old new ≡ need_event (awaited e size new) new.head old.head
   unfolding notify_of
   notify_desc f l = simp (f, lt-leb size (off_of e) l)
-
-  -- called alone, on heads that are not both below the size, and on such that are
-  pub asked_bad : leb size old.head || leb size new.head ≡ true → should_notify_of e size old new ≡ refused 7
-  unfolding should_notify_of
-  asked_bad h = simp h
-
-  pub asked_good :
-      leb size old.head || leb size new.head ≡ false
-      → should_notify_of e size old new ≡ done (bit (notify_of e size old new) ∷ [])
-  unfolding should_notify_of
-  asked_good h = simp h

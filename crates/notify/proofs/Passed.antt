@@ -2,6 +2,7 @@
 -- Assumes nothing.
 use Rattle.std.proofs.Common.{◌≡◌, ℕ, ◌+◌, ◌-◌, ◌<◌, ◌≤◌, Bool, true, false, cond, ◌⊎◌, sym, refl, ap, ◌∙◌, ap₂, inl, inr, arith, le-ltb, lt-ltb}
 use mathlib.Core.Bool.{beq}
+use Rattle.std.proofs.lemmas.Bool.{true≢false}
 use Rattle.base.proofs.Tests.{by_lt, by_eq}
 use Rattle.cursor.specs.declared.RingCursor.{RingCursor}
 use Rattle.cursor.specs.Cursor.{at, steps}
@@ -15,7 +16,7 @@ use Rattle.notify.proofs.Laws.{sub16_le, sub16_lt, notify_desc, notify_past}
 -- ---- on Booleans
 
 clash : {b : Bool} → b ≡ false → b ≡ true → ⊥
-clash e f = let z : ◌≡◌ {A = ℕ} 0 1 = cc in omega arith
+clash e f = true≢false (sym f ∙ e)
 
 beq_same : (a b : Bool) → a ≡ b → beq a b ≡ true
 beq_same true true e = refl

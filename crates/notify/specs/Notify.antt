@@ -1,13 +1,11 @@
 -- Whether the other end is to be told (document 01, "What each end does", Notify; VIRTIO 1.1, 2.7.10).
-use Rattle.std.specs.Prelude.{ℕ, ◌+◌, ◌-◌, ◌%◌, Bool, true, false, cond, not, ◌||◌, [], ◌∷◌, ◌==◌, nat_le, nat_lt}
+use Rattle.std.specs.Prelude.{ℕ, ◌+◌, ◌-◌, ◌%◌, Bool, true, false, cond, not, ◌||◌, [], ◌∷◌, ◌==◌, nat_le, nat_lt, Result}
 use Rattle.std.specs.Bool.{beq}
-use Rattle.base.specs.Refusals.{number_of}
-use Rattle.base.specs.Answer.{Answer, done, refused, bit}
+use Rattle.base.specs.declared.RingError.{RingError}
+use Rattle.base.specs.Answer.{Answer, done, refused, bit, answer_by}
 use Rattle.cursor.specs.declared.RingCursor.{RingCursor}
 use Rattle.event.specs.declared.EventSuppression.{EventSuppression}
 use Rattle.event.specs.Event.{ENABLE, DISABLE, DESC, flags_of, off_of, wrap_of}
-use Rattle.notify.specs.declared.Notified.{Notified}
-use Rattle.notify.specs.declared.Notified.TheVariants.{Notify, Refused}
 
 -- "all of them subtractions that wrap at 65,536"
 unfoldable pub sub16 : ℕ → ℕ → ℕ
@@ -36,7 +34,6 @@ unfoldable pub should_notify_of : EventSuppression → ℕ → RingCursor → Ri
 should_notify_of e size old new =
     cond (nat_le size old.head || nat_le size new.head) (refused 7) (done (bit (notify_of e size old new) ∷ []))
 
--- the answer's cases, in the paper's number and values
-abbrev pub answer_of : Notified → Answer
-answer_of (Notify b) = done (bit b ∷ [])
-answer_of (Refused e) = refused (number_of e)
+-- the answer, in the paper's number and value
+abbrev pub answer_of : Result Bool RingError → Answer
+answer_of r = answer_by (λ b. bit b ∷ []) r

@@ -6,16 +6,16 @@ use mathlib.Core.Path.{◌≡◌, refl, sym, ap, ◌∙◌, subst}
 use mathlib.Core.Bool.{false}
 use mathlib.Core.List.{List, [], ◌∷◌}
 use lib.Dec.{T}
+use Rattle.std.specs.Prelude.{Result, Ok}
+use Rattle.base.specs.declared.RingError.{RingError}
 use Rattle.base.specs.Answer.{Answer}
 use Rattle.layout.specs.declared.Layout.{Layout}
 use Rattle.layout.specs.Layout.{bad_layout}
-use Rattle.producer.specs.declared.Opened as made_result
-use Rattle.producer.specs.declared.Opened.TheVariants as made_opened
+use Rattle.producer.specs.declared.RingProducer.{RingProducer}
 use Rattle.producer.specs.Fresh as made_fresh
 use Rattle.producer.proofs.Same as made_same
-use Rattle.consumer.specs.declared.Opened as taken_result
-use Rattle.consumer.specs.declared.Opened.TheVariants as taken_opened
 use Rattle.consumer.specs.declared.Checkpoint.{Checkpoint}
+use Rattle.consumer.specs.declared.RingConsumer.{RingConsumer}
 use Rattle.consumer.specs.Fresh as taken_fresh
 use Rattle.consumer.proofs.Same as taken_same
 use Rattle.queue.specs.History.{Event, History}
@@ -111,25 +111,25 @@ opening_of o =
       consumer_length = o.consumer_length;
       producer =
           ap (λ (x : made_fresh.Open). x.answer.number) (sym o.producer_new.meets)
-          ∙ ap (λ (x : made_result.Opened). (made_fresh.opened_answer x).number) o.producer_opened;
+          ∙ ap (λ (x : Result RingProducer RingError). (made_fresh.opened_answer x).number) o.producer_opened;
       consumer =
           ap (λ (g : Layout). (packed.consumer_new g (consumer_finds o.consumer_new) (sixth o.consumer_new.entry).now).answer.number) (sym o.one_geometry)
           ∙ ap (λ (x : taken_fresh.Open). x.answer.number) (sym o.consumer_new.meets)
-          ∙ ap (λ (x : taken_result.Opened). (taken_fresh.opened_answer x).number) o.consumer_opened;
+          ∙ ap (λ (x : Result RingConsumer RingError). (taken_fresh.opened_answer x).number) o.consumer_opened;
     }
 
 module _ (o : RealOpening) where
   producer_is : made_fresh.fresh_of (producer_geometry o.producer_new) ≡ o.producer
   producer_is =
-      let e : o.producer_new.result ≡ made_opened.Ring (made_fresh.fresh_of (producer_geometry o.producer_new)) =
-      made_same.opened_same o.producer_new.result (made_opened.Ring (made_fresh.fresh_of (producer_geometry o.producer_new)))
+      let e : o.producer_new.result ≡ Ok (made_fresh.fresh_of (producer_geometry o.producer_new)) =
+      made_same.opened_same o.producer_new.result (Ok (made_fresh.fresh_of (producer_geometry o.producer_new)))
       (ap (λ (x : made_fresh.Open). x.answer) o.producer_new.meets ∙ made_answer (opening_of o)) in
       cc (e, o.producer_opened)
 
   consumer_is : taken_fresh.fresh_of (producer_geometry o.producer_new) ≡ o.consumer
   consumer_is =
-      let e : o.consumer_new.result ≡ taken_opened.Ring (taken_fresh.fresh_of (producer_geometry o.producer_new)) =
-      taken_same.opened_same o.consumer_new.result (taken_opened.Ring (taken_fresh.fresh_of (producer_geometry o.producer_new)))
+      let e : o.consumer_new.result ≡ Ok (taken_fresh.fresh_of (producer_geometry o.producer_new)) =
+      taken_same.opened_same o.consumer_new.result (Ok (taken_fresh.fresh_of (producer_geometry o.producer_new)))
       (ap (λ (x : taken_fresh.Open). x.answer) o.consumer_new.meets
       ∙ ap (λ (g : Layout). (packed.consumer_new g (consumer_finds o.consumer_new) (sixth o.consumer_new.entry).now).answer) o.one_geometry
       ∙ taken_answer (opening_of o)) in

@@ -1,17 +1,15 @@
 -- Real calls: a machine whose calls are calls of the public functions of `producer` and `consumer`, each only known to meet the GENERATED contract
 -- of its function, each end given back its own last record and tables. What such a call says and leaves is read off its own result and exit, and not
 -- off any definition: so demand 3 of this machine (packed/proofs/Real.antt) is demand 3 of the functions.
-use Rattle.std.specs.Prelude.{ℕ, ◌+◌, ◌*◌, ◌<◌, ◌≡◌, List, [], ◌∷◌, length, get_or}
+use Rattle.std.specs.Prelude.{ℕ, ◌+◌, ◌*◌, ◌<◌, ◌≡◌, List, [], ◌∷◌, length, get_or, Ok}
 use Rattle.base.specs.Answer.{Answer}
 use Rattle.layout.specs.declared.Layout.{Layout}
 use Rattle.layout.specs.Layout.{layout}
 use Rattle.producer.specs.declared.RingProducer.{RingProducer}
-use Rattle.producer.specs.declared.Opened.TheVariants as made_opened
 use Rattle.producer.specs.Fresh as made_fresh
 use Rattle.producer.proofs.RingProducer.new.Reads as producer_new_contract
 use Rattle.consumer.specs.declared.RingConsumer.{RingConsumer}
 use Rattle.consumer.specs.declared.Checkpoint.{Checkpoint}
-use Rattle.consumer.specs.declared.Opened.TheVariants as taken_opened
 use Rattle.consumer.specs.Fresh as taken_fresh
 use Rattle.consumer.proofs.RingConsumer.new.Reads as consumer_new_contract
 use Rattle.queue.specs.Promise.{plain}
@@ -162,8 +160,8 @@ pub record RealOpening : Type 0 where
   pub consumer_new : ConsumerNew
   pub producer : RingProducer
   pub consumer : RingConsumer
-  pub producer_opened : producer_new.result ≡ made_opened.Ring producer
-  pub consumer_opened : consumer_new.result ≡ taken_opened.Ring consumer
+  pub producer_opened : producer_new.result ≡ Ok producer
+  pub consumer_opened : consumer_new.result ≡ Ok consumer
   pub one_geometry : consumer_geometry consumer_new ≡ producer_geometry producer_new
   pub ring : List ℕ
   pub zeroed : (k : ℕ) → k < (producer_geometry producer_new).size * 16 → get_or ring ((producer_geometry producer_new).table + k) 0 ≡ 0

@@ -2,9 +2,9 @@
 -- function was lent and what it left, by the place of each thing among its arguments.
 use Rattle.std.specs.Prelude.{ℕ, List, []}
 use Rattle.base.specs.Answer.{Answer}
+use Rattle.base.specs.Answer as reply
 use Rattle.event.specs.Event.{ENABLE, DISABLE}
 use Rattle.ring.specs.Asked.{count_answer, bool_answer, cursor_answer}
-use Rattle.consumer.specs.Outcome as taken
 use Rattle.consumer.specs.Poll as polls
 use Rattle.consumer.specs.Complete as completes
 use Rattle.consumer.specs.Rollback as rollbacks
@@ -74,23 +74,23 @@ call_of (reset m) = consumer_reset
 
 -- its answer
 abbrev pub answer_of : RealConsumer → Answer
-answer_of (real_poll_available m) = polls.polled_answer m.result
-answer_of (real_submit_used m) = taken.answer_of m.result
-answer_of (real_submit_used_with_notify m) = completes.told_answer m.result
+answer_of (real_poll_available m) = polls.polled_answer m.result.1
+answer_of (real_submit_used m) = reply.answer_of m.result.1
+answer_of (real_submit_used_with_notify m) = completes.told_answer m.result.1
 answer_of (real_peek_available m) = bool_answer m.result
 answer_of (real_poll_checkpoint m) = rollbacks.checkpoint_answer m.result
-answer_of (real_rollback_polls m) = taken.answer_of m.result
+answer_of (real_rollback_polls m) = reply.answer_of m.result.1
 answer_of (num_free m) = count_answer m.result
 answer_of (num_inflight m) = count_answer m.result
 answer_of (is_full m) = bool_answer m.result
 answer_of (len m) = count_answer m.result
 answer_of (avail_cursor m) = cursor_answer m.result
 answer_of (used_cursor m) = cursor_answer m.result
-answer_of (disable_avail_notifications m) = taken.answer_of m.result
-answer_of (enable_avail_notifications m) = taken.answer_of m.result
-answer_of (enable_avail_notifications_desc m) = taken.answer_of m.result
-answer_of (enable_avail_notifications_for_next m) = taken.answer_of m.result
-answer_of (reset m) = taken.answer_of m.result
+answer_of (disable_avail_notifications m) = reply.answer_of m.result.1
+answer_of (enable_avail_notifications m) = reply.answer_of m.result.1
+answer_of (enable_avail_notifications_desc m) = reply.answer_of m.result.1
+answer_of (enable_avail_notifications_for_next m) = reply.answer_of m.result.1
+answer_of (reset m) = reply.answer_of m.result.1
 
 -- the record and tables that it was lent, and the bytes; for what it was not lent, those of s and r
 abbrev pub side_lent : ConsumerSide → RealConsumer → ConsumerSide
@@ -133,23 +133,23 @@ bytes_lent r (reset m) = (second m.entry).now
 
 -- the record that it handed back, and the tables and bytes at exit (what it was lent as `&` is as it was)
 abbrev pub side_left : ConsumerSide → RealConsumer → ConsumerSide
-side_left s (real_poll_available m) = record { end = polls.polled_record m.result; counts = (third m.exit).now }
-side_left s (real_submit_used m) = record { end = taken.record_of m.result; counts = (third m.exit).now }
-side_left s (real_submit_used_with_notify m) = record { end = completes.told_record m.result; counts = (third m.exit).now }
+side_left s (real_poll_available m) = record { end = m.result.0; counts = (third m.exit).now }
+side_left s (real_submit_used m) = record { end = m.result.0; counts = (third m.exit).now }
+side_left s (real_submit_used_with_notify m) = record { end = m.result.0; counts = (third m.exit).now }
 side_left s (real_peek_available m) = record { end = first m.entry; counts = s.counts }
 side_left s (real_poll_checkpoint m) = record { end = first m.entry; counts = s.counts }
-side_left s (real_rollback_polls m) = record { end = taken.record_of m.result; counts = (second m.exit).now }
+side_left s (real_rollback_polls m) = record { end = m.result.0; counts = (second m.exit).now }
 side_left s (num_free m) = record { end = first m.entry; counts = s.counts }
 side_left s (num_inflight m) = record { end = first m.entry; counts = s.counts }
 side_left s (is_full m) = record { end = first m.entry; counts = s.counts }
 side_left s (len m) = record { end = first m.entry; counts = s.counts }
 side_left s (avail_cursor m) = record { end = first m.entry; counts = s.counts }
 side_left s (used_cursor m) = record { end = first m.entry; counts = s.counts }
-side_left s (disable_avail_notifications m) = record { end = taken.record_of m.result; counts = s.counts }
-side_left s (enable_avail_notifications m) = record { end = taken.record_of m.result; counts = s.counts }
-side_left s (enable_avail_notifications_desc m) = record { end = taken.record_of m.result; counts = s.counts }
-side_left s (enable_avail_notifications_for_next m) = record { end = taken.record_of m.result; counts = s.counts }
-side_left s (reset m) = record { end = taken.record_of m.result; counts = (third m.exit).now }
+side_left s (disable_avail_notifications m) = record { end = m.result.0; counts = s.counts }
+side_left s (enable_avail_notifications m) = record { end = m.result.0; counts = s.counts }
+side_left s (enable_avail_notifications_desc m) = record { end = m.result.0; counts = s.counts }
+side_left s (enable_avail_notifications_for_next m) = record { end = m.result.0; counts = s.counts }
+side_left s (reset m) = record { end = m.result.0; counts = (third m.exit).now }
 
 abbrev pub bytes_left : List ℕ → RealConsumer → List ℕ
 bytes_left r (real_poll_available m) = (second m.entry).now

@@ -2,10 +2,10 @@
 -- function was lent and what it left, by the place of each thing among its arguments.
 use Rattle.std.specs.Prelude.{ℕ, List}
 use Rattle.base.specs.Answer.{Answer}
+use Rattle.base.specs.Answer as reply
 use Rattle.event.specs.Event.{ENABLE, DISABLE}
 use Rattle.notify.specs.Notify as notified
 use Rattle.ring.specs.Asked.{count_answer, bool_answer, cursor_answer, table_answer}
-use Rattle.producer.specs.Outcome as made
 use Rattle.producer.specs.Submit as submits
 use Rattle.producer.specs.Tell as tells
 use Rattle.producer.specs.Poll as reclaims
@@ -60,9 +60,9 @@ pub data RealProducer : Type 0 where
 -- the call with its arguments, as the machine has it
 abbrev pub call_of : RealProducer → ProducerCall
 call_of (real_submit_one m) = submit_one (fifth m.entry) (sixth m.entry) (seventh m.entry)
-call_of (real_submit_available m) = submit_available (chain_of (fifth m.entry).now (sixth m.entry).now (seventh m.entry))
+call_of (real_submit_available m) = submit_available (chain_of (fifth m.entry).addrs.now (fifth m.entry).lens.now (fifth m.entry).readable)
 call_of (real_submit_one_with_notify m) = submit_one_with_notify (fifth m.entry) (sixth m.entry) (seventh m.entry)
-call_of (real_submit_available_with_notify m) = submit_available_with_notify (chain_of (fifth m.entry).now (sixth m.entry).now (seventh m.entry))
+call_of (real_submit_available_with_notify m) = submit_available_with_notify (chain_of (fifth m.entry).addrs.now (fifth m.entry).lens.now (fifth m.entry).readable)
 call_of (real_poll_used m) = poll_used
 call_of (real_next_id m) = next_id
 call_of (num_free m) = producer_asked producer_num_free
@@ -81,11 +81,11 @@ call_of (reset m) = producer_reset
 
 -- its answer
 abbrev pub answer_of : RealProducer → Answer
-answer_of (real_submit_one m) = submits.submitted_answer m.result
-answer_of (real_submit_available m) = submits.submitted_answer m.result
-answer_of (real_submit_one_with_notify m) = tells.told_answer m.result
-answer_of (real_submit_available_with_notify m) = tells.told_answer m.result
-answer_of (real_poll_used m) = reclaims.polled_answer m.result
+answer_of (real_submit_one m) = submits.submitted_answer m.result.1
+answer_of (real_submit_available m) = submits.submitted_answer m.result.1
+answer_of (real_submit_one_with_notify m) = tells.told_answer m.result.1
+answer_of (real_submit_available_with_notify m) = tells.told_answer m.result.1
+answer_of (real_poll_used m) = reclaims.polled_answer m.result.1
 answer_of (real_next_id m) = reclaims.next_answer m.result
 answer_of (num_free m) = count_answer m.result
 answer_of (num_inflight m) = count_answer m.result
@@ -95,11 +95,11 @@ answer_of (desc_table m) = table_answer m.result
 answer_of (avail_cursor m) = cursor_answer m.result
 answer_of (used_cursor m) = cursor_answer m.result
 answer_of (real_should_notify_since m) = notified.answer_of m.result
-answer_of (disable_used_notifications m) = made.answer_of m.result
-answer_of (enable_used_notifications m) = made.answer_of m.result
-answer_of (enable_used_notifications_desc m) = made.answer_of m.result
-answer_of (enable_used_notifications_for_next m) = made.answer_of m.result
-answer_of (reset m) = made.answer_of m.result
+answer_of (disable_used_notifications m) = reply.answer_of m.result.1
+answer_of (enable_used_notifications m) = reply.answer_of m.result.1
+answer_of (enable_used_notifications_desc m) = reply.answer_of m.result.1
+answer_of (enable_used_notifications_for_next m) = reply.answer_of m.result.1
+answer_of (reset m) = reply.answer_of m.result.1
 
 -- the record and tables that it was lent, and the bytes; for what it was not lent, those of s and r
 abbrev pub side_lent : ProducerSide → RealProducer → ProducerSide
@@ -146,13 +146,13 @@ bytes_lent r (reset m) = (second m.entry).now
 
 -- the record that it handed back, and the tables and bytes at exit (what it was lent as `&` is as it was)
 abbrev pub side_left : ProducerSide → RealProducer → ProducerSide
-side_left s (real_submit_one m) = record { end = submits.submitted_record m.result; ids = (third m.entry).now; counts = (fourth m.exit).now }
+side_left s (real_submit_one m) = record { end = m.result.0; ids = (third m.entry).now; counts = (fourth m.exit).now }
 side_left s (real_submit_available m) =
-    record { end = submits.submitted_record m.result; ids = (third m.entry).now; counts = (fourth m.exit).now }
-side_left s (real_submit_one_with_notify m) = record { end = tells.told_record m.result; ids = (third m.entry).now; counts = (fourth m.exit).now }
+    record { end = m.result.0; ids = (third m.entry).now; counts = (fourth m.exit).now }
+side_left s (real_submit_one_with_notify m) = record { end = m.result.0; ids = (third m.entry).now; counts = (fourth m.exit).now }
 side_left s (real_submit_available_with_notify m) =
-    record { end = tells.told_record m.result; ids = (third m.entry).now; counts = (fourth m.exit).now }
-side_left s (real_poll_used m) = record { end = reclaims.polled_record m.result; ids = (third m.exit).now; counts = (fourth m.exit).now }
+    record { end = m.result.0; ids = (third m.entry).now; counts = (fourth m.exit).now }
+side_left s (real_poll_used m) = record { end = m.result.0; ids = (third m.exit).now; counts = (fourth m.exit).now }
 side_left s (real_next_id m) = record { end = first m.entry; ids = (second m.entry).now; counts = (third m.entry).now }
 side_left s (num_free m) = record { end = first m.entry; ids = s.ids; counts = s.counts }
 side_left s (num_inflight m) = record { end = first m.entry; ids = s.ids; counts = s.counts }
@@ -162,11 +162,11 @@ side_left s (desc_table m) = record { end = first m.entry; ids = s.ids; counts =
 side_left s (avail_cursor m) = record { end = first m.entry; ids = s.ids; counts = s.counts }
 side_left s (used_cursor m) = record { end = first m.entry; ids = s.ids; counts = s.counts }
 side_left s (real_should_notify_since m) = record { end = first m.entry; ids = s.ids; counts = s.counts }
-side_left s (disable_used_notifications m) = record { end = made.record_of m.result; ids = s.ids; counts = s.counts }
-side_left s (enable_used_notifications m) = record { end = made.record_of m.result; ids = s.ids; counts = s.counts }
-side_left s (enable_used_notifications_desc m) = record { end = made.record_of m.result; ids = s.ids; counts = s.counts }
-side_left s (enable_used_notifications_for_next m) = record { end = made.record_of m.result; ids = s.ids; counts = s.counts }
-side_left s (reset m) = record { end = made.record_of m.result; ids = (third m.exit).now; counts = (fourth m.exit).now }
+side_left s (disable_used_notifications m) = record { end = m.result.0; ids = s.ids; counts = s.counts }
+side_left s (enable_used_notifications m) = record { end = m.result.0; ids = s.ids; counts = s.counts }
+side_left s (enable_used_notifications_desc m) = record { end = m.result.0; ids = s.ids; counts = s.counts }
+side_left s (enable_used_notifications_for_next m) = record { end = m.result.0; ids = s.ids; counts = s.counts }
+side_left s (reset m) = record { end = m.result.0; ids = (third m.exit).now; counts = (fourth m.exit).now }
 
 abbrev pub bytes_left : List ℕ → RealProducer → List ℕ
 bytes_left r (real_submit_one m) = (second m.exit).now

@@ -28,6 +28,8 @@ use Rattle.producer.specs.Tell.{tell_of}
 use Rattle.producer.specs.Poll.{poll_refusal, freed_of, polled_of, next_refusal}
 use Rattle.producer.specs.Notices.{since_refusal, shadow_of}
 use Rattle.producer.specs.Fresh.{fresh_of}
+use Rattle.producer.proofs.Submit.{submit_ready}
+use Rattle.producer.proofs.Poll.{poll_ready, poll_moves}
 
 pub not_bad :
     (p : RingProducer) → bad_layout p.layout ≡ false → p.avail.head < p.layout.size → p.used.head < p.layout.size
@@ -168,3 +170,8 @@ module _ (old : RingCursor) (o : Outcome) where
 pub fresh_is : (l : Layout) → fresh_of l ≡ record { layout = l; avail = fresh; used = fresh; free = l.size; height = l.size; shadow = ENABLE }
 unfolding fresh_of
 fresh_is l = refl
+
+-- ---- what the search applies where a submission or a poll is not refused
+pub ruleset submits = (submit_ready, submitted_is, taken_is)
+
+pub ruleset polls = (poll_ready, poll_moves, polled_is, freed_is)

@@ -1,7 +1,7 @@
 -- The ways a poll and a question for the next ID end.
 -- Assumes nothing.
 use Prim.Native.Nat.{ℕ, ◌+◌, ◌≤◌, ◌<◌}
-use mathlib.Core.Path.{◌≡◌}
+use mathlib.Core.Path.{◌≡◌, ap}
 use mathlib.Core.List.{List, [], ◌∷◌}
 use mathlib.Core.Bool.{true, not, ◌||◌}
 use native.Mathlib.Omega.{arith}
@@ -10,6 +10,9 @@ use lib.ListN.{length, get_or}
 use borrow.Author.Tests.{eq-eqb, ne_eqb, eqb-true, eqb-false, ltb-false, leb-false, not-false}
 use Rattle.base.specs.Answer.{done, refused}
 use Rattle.base.proofs.Tests.{neither, positive}
+use Rattle.cursor.specs.Cursor as moves
+use Rattle.cursor.specs.Cursor.{steps, advance_of}
+use Rattle.cursor.proofs.Ready.{advance_ready}
 use Rattle.desc.specs.declared.Descriptor.{Descriptor}
 use Rattle.desc.specs.Flags.{is_used}
 use Rattle.producer.specs.declared.RingProducer.{RingProducer}
@@ -17,7 +20,7 @@ use Rattle.producer.specs.Record.{bad_record, bad_lent}
 use Rattle.producer.specs.Outcome.{outcome}
 use Rattle.producer.specs.Submit.{top_of}
 use Rattle.producer.proofs.Ready.{Sound, sound, Lent, lent}
-use Rattle.base.proofs.Ladder.{passed, both_passed, cond_lt, both_below}
+use Rattle.base.proofs.Ladder.{passed, both_passed}
 use Rattle.ring.specs.Slots.{slot_of}
 use Rattle.producer.specs.Poll.{poll_refusal, polled_of, poll_of, next_refusal, next_of}
 
@@ -52,14 +55,16 @@ module _ (p : RingProducer) (bytes : ℕ) (d : Descriptor) (ids : ℕ) (counts :
         stack = leb-false p.layout.size p.height r.1;
       }
 
-  pub poll_below : poll_refusal p bytes d ids counts < 9
-  unfolding poll_refusal
-  poll_below =
-      both_below (bad_record p) (bad_lent p bytes ids (length counts)) _
-      (cond_lt (not (is_used d.flags p.used.wrap)) 3 _ (omega arith)
-      (cond_lt (leb p.layout.size d.id
-      || (eqb (get_or counts d.id 0) 0
-      || (ltb p.layout.size (p.free + get_or counts d.id 0) || leb p.layout.size p.height))) 5 0 (omega arith) (omega arith)))
+  -- and the used cursor moves by the count
+  pub poll_moves :
+      poll_refusal p bytes d ids counts ≡ 0
+      → (advance_of p.layout.size (get_or counts d.id 0) p.used).cursor ≡ steps p.layout.size (get_or counts d.id 0) p.used
+  poll_moves e =
+      let r = poll_ready e in
+      let l = r.sound.laid in
+      ap (λ (o : moves.Outcome). o.cursor)
+      (advance_ready p.layout.size (get_or counts d.id 0) p.used
+      (record { low = l.low; high = l.high; head = r.sound.used; move = omega arith }))
 
 module _ (p : RingProducer) (ring ids counts : List ℕ) where
   abbrev at_used : Descriptor
@@ -102,13 +107,6 @@ module _ (p : RingProducer) (ids counts : List ℕ) where
         id = leb-false p.layout.size (top_of p ids) i.0;
         unheld = eqb-true (get_or counts (top_of p ids) 0) 0 (not-false (eqb (get_or counts (top_of p ids) 0) 0) i.1);
       }
-
-  pub next_below : next_refusal p ids counts < 9
-  unfolding next_refusal
-  next_below =
-      both_below (bad_record p) (ltb (length ids) p.layout.size || ltb (length counts) p.layout.size) _
-      (cond_lt (eqb p.height 0) 4 _ (omega arith)
-      (cond_lt (leb p.layout.size (top_of p ids) || not (eqb (get_or counts (top_of p ids) 0) 0)) 5 0 (omega arith) (omega arith)))
 
   pub next_refused : (next_refusal p ids counts ≡ 0 → ⊥) → next_of p ids counts ≡ refused (next_refusal p ids counts)
   unfolding next_of

@@ -1,85 +1,81 @@
 -- Each answer of the producer, with the record that it hands back, is told by its number and values.
 -- Assumes nothing.
 use Prim.Native.Nat.{ℕ}
-use mathlib.Core.Path.{◌≡◌, sym, ap, ap₂}
-use mathlib.Core.List.{List, []}
-use Rattle.base.specs.Answer.{Answer}
-use Rattle.base.proofs.Refusals.{value, not_done, refused_same, bit_same}
+use mathlib.Core.Path.{◌≡◌, refl, ap}
+use mathlib.Core.List.{List, [], ◌∷◌}
+use lib.ListN.{get_or}
+use Rattle.std.specs.Prelude.{Result, ⊤}
+use Rattle.base.specs.declared.RingError.{RingError}
+use Rattle.base.specs.Answer.{bit, answer_by, answer_of}
+use Rattle.base.proofs.Refusals.{bit_same, result_same}
 use Rattle.cursor.specs.Cursor.{at}
 use Rattle.layout.specs.Layout.{layout}
 use Rattle.producer.specs.declared.RingProducer.{RingProducer}
-use Rattle.producer.specs.declared.Submitted.{Submitted}
-use Rattle.producer.specs.declared.Submitted.TheVariants as submitted
-use Rattle.producer.specs.declared.SubmittedTold.{SubmittedTold}
-use Rattle.producer.specs.declared.SubmittedTold.TheVariants as told
-use Rattle.producer.specs.declared.PolledUsed.{PolledUsed}
-use Rattle.producer.specs.declared.PolledUsed.TheVariants as polled
-use Rattle.producer.specs.declared.NextId.{NextId}
-use Rattle.producer.specs.declared.NextId.TheVariants as next
-use Rattle.producer.specs.declared.Answered.{Answered}
-use Rattle.producer.specs.declared.Answered.TheVariants as answered
-use Rattle.producer.specs.declared.Opened.{Opened}
-use Rattle.producer.specs.declared.Opened.TheVariants as opening
-use Rattle.producer.specs.Outcome.{Outcome, outcome, Changed, changed, answer_of, record_of}
-use Rattle.producer.specs.Submit.{submitted_answer, submitted_record}
-use Rattle.producer.specs.Tell.{told_answer, told_record}
-use Rattle.producer.specs.Poll.{polled_answer, polled_record, next_answer}
-use Rattle.producer.specs.Fresh.{Open, opened, opened_answer}
+use Rattle.producer.specs.declared.SubmitResult.{SubmitResult}
+use Rattle.producer.specs.declared.UsedBuffer.{UsedBuffer}
+use Rattle.producer.specs.Outcome.{Outcome, outcome, Changed, changed}
+use Rattle.producer.specs.Submit.{submitted_answer}
+use Rattle.producer.specs.Tell.{told_answer}
+use Rattle.producer.specs.Poll.{polled_answer, next_answer}
+use Rattle.producer.specs.Fresh.{Open, record_values, opened, opened_answer}
 
-pub submitted_same : (x y : Submitted) → submitted_answer x ≡ submitted_answer y → submitted_record x ≡ submitted_record y → x ≡ y
-submitted_same (submitted.Id m p) (submitted.Id n q) h r = ap₂ submitted.Id (ap (value 0) h) r
-submitted_same (submitted.Id m p) (submitted.Refused e q) h r = not_done e _ h
-submitted_same (submitted.Refused e p) (submitted.Id n q) h r = not_done e _ (sym h)
-submitted_same (submitted.Refused e p) (submitted.Refused f q) h r = ap₂ submitted.Refused (refused_same e f h) r
+-- ---- what is handed back is told by its values
 
-pub told_same : (x y : SubmittedTold) → told_answer x ≡ told_answer y → told_record x ≡ told_record y → x ≡ y
-told_same (told.Result a p) (told.Result b q) h r =
-    λ i. told.Result (record { id = value 0 (h i); notify = bit_same a.notify b.notify (ap (value 1) h) i }) (r i)
-told_same (told.Result a p) (told.Refused e q) h r = not_done e _ h
-told_same (told.Refused e p) (told.Result b q) h r = not_done e _ (sym h)
-told_same (told.Refused e p) (told.Refused f q) h r = ap₂ told.Refused (refused_same e f h) r
+abbrev pub entry : ℕ → List ℕ → ℕ
+entry i l = get_or l i 0
 
-pub polled_same : (x y : PolledUsed) → polled_answer x ≡ polled_answer y → polled_record x ≡ polled_record y → x ≡ y
-polled_same (polled.Used a p) (polled.Used b q) h r = λ i. polled.Used (record { id = value 0 (h i); len = value 1 (h i) }) (r i)
-polled_same (polled.Used a p) (polled.Refused e q) h r = not_done e _ h
-polled_same (polled.Refused e p) (polled.Used b q) h r = not_done e _ (sym h)
-polled_same (polled.Refused e p) (polled.Refused f q) h r = ap₂ polled.Refused (refused_same e f h) r
+pub id_known : (m n : ℕ) → m ∷ [] ≡ n ∷ [] → m ≡ n
+id_known m n e = ap (entry 0) e
 
-pub answered_same : (x y : Answered) → answer_of x ≡ answer_of y → record_of x ≡ record_of y → x ≡ y
-answered_same (answered.Done p) (answered.Done q) h r = ap answered.Done r
-answered_same (answered.Done p) (answered.Refused e q) h r = not_done e _ h
-answered_same (answered.Refused e p) (answered.Done q) h r = not_done e _ (sym h)
-answered_same (answered.Refused e p) (answered.Refused f q) h r = ap₂ answered.Refused (refused_same e f h) r
+pub result_known : (a b : SubmitResult) → a.id ∷ bit a.notify ∷ [] ≡ b.id ∷ bit b.notify ∷ [] → a ≡ b
+result_known a b e = λ i. record { id = entry 0 (e i); notify = bit_same a.notify b.notify (ap (entry 1) e) i }
 
-pub next_same : (x y : NextId) → next_answer x ≡ next_answer y → x ≡ y
-next_same (next.Id m) (next.Id n) h = ap next.Id (ap (value 0) h)
-next_same (next.Id m) (next.Refused e) h = not_done e _ h
-next_same (next.Refused e) (next.Id n) h = not_done e _ (sym h)
-next_same (next.Refused e) (next.Refused f) h = ap next.Refused (refused_same e f h)
+pub used_known : (a b : UsedBuffer) → a.id ∷ a.len ∷ [] ≡ b.id ∷ b.len ∷ [] → a ≡ b
+used_known a b e = λ i. record { id = entry 0 (e i); len = entry 1 (e i) }
 
-pub opened_same : (x y : Opened) → opened_answer x ≡ opened_answer y → x ≡ y
-opened_same (opening.Ring p) (opening.Ring q) h =
-    λ i. opening.Ring (record {
-      layout = layout (value 0 (h i)) (value 1 (h i)) (value 2 (h i)) (value 3 (h i));
-      avail = at (value 4 (h i)) (bit_same p.avail.wrap q.avail.wrap (ap (value 5) h) i);
-      used = at (value 6 (h i)) (bit_same p.used.wrap q.used.wrap (ap (value 7) h) i);
-      free = value 8 (h i);
-      height = value 9 (h i);
-      shadow = value 10 (h i);
-    })
-opened_same (opening.Ring p) (opening.Refused e) h = not_done e _ h
-opened_same (opening.Refused e) (opening.Ring q) h = not_done e _ (sym h)
-opened_same (opening.Refused e) (opening.Refused f) h = ap opening.Refused (refused_same e f h)
+record_known : (p q : RingProducer) → record_values p ≡ record_values q → p ≡ q
+record_known p q e =
+    λ i. record {
+      layout = layout (entry 0 (e i)) (entry 1 (e i)) (entry 2 (e i)) (entry 3 (e i));
+      avail = at (entry 4 (e i)) (bit_same p.avail.wrap q.avail.wrap (ap (entry 5) e) i);
+      used = at (entry 6 (e i)) (bit_same p.used.wrap q.used.wrap (ap (entry 7) e) i);
+      free = entry 8 (e i);
+      height = entry 9 (e i);
+      shadow = entry 10 (e i);
+    }
 
--- ---- what is seen of a call: its result, and what it left of what it was lent
+pub next_same : (x y : Result ℕ RingError) → next_answer x ≡ next_answer y → x ≡ y
+next_same x y h = result_same (λ n. n ∷ []) id_known x y h
 
-module _ {R : Type 0} (answer : R → Answer) (end : R → RingProducer) (same : (x y : R) → answer x ≡ answer y → end x ≡ end y → x ≡ y) where
-  abbrev pub all_seen : R × (List ℕ × (List ℕ × List ℕ)) → Outcome
-  all_seen x = outcome (answer x.0) (end x.0) x.1.0 x.1.1.0 x.1.1.1
+pub opened_same : (x y : Result RingProducer RingError) → opened_answer x ≡ opened_answer y → x ≡ y
+opened_same x y h = result_same record_values record_known x y h
 
-  pub all_same : (x y : R × (List ℕ × (List ℕ × List ℕ))) → all_seen x ≡ all_seen y → x ≡ y
+-- ---- a call that hands the record back, and what is seen of it: its result, and what it left of what it was lent
+
+module _ {A : Type 0} (f : A → List ℕ) (known : (a b : A) → f a ≡ f b → a ≡ b) where
+  pub handed_same : (x y : RingProducer × Result A RingError) → answer_by f x.1 ≡ answer_by f y.1 → x.0 ≡ y.0 → x ≡ y
+  handed_same x y h r i = (r i, result_same f known x.1 y.1 h i)
+
+  abbrev pub all_seen : (RingProducer × Result A RingError) × (List ℕ × (List ℕ × List ℕ)) → Outcome
+  all_seen x = outcome (answer_by f x.0.1) x.0.0 x.1.0 x.1.1.0 x.1.1.1
+
+  pub all_same :
+      (x y : (RingProducer × Result A RingError) × (List ℕ × (List ℕ × List ℕ))) → all_seen x ≡ all_seen y → x ≡ y
   all_same x y h i =
-      (same x.0 y.0 (ap (λ (o : Outcome). o.answer) h) (ap (λ (o : Outcome). o.end) h) i, ((h i).ring, ((h i).ids, (h i).counts)))
+      (handed_same x.0 y.0 (ap (λ (o : Outcome). o.answer) h) (ap (λ (o : Outcome). o.end) h) i, ((h i).ring, ((h i).ids, (h i).counts)))
+
+pub submitted_same :
+    (x y : RingProducer × Result ℕ RingError) → submitted_answer x.1 ≡ submitted_answer y.1 → x.0 ≡ y.0 → x ≡ y
+submitted_same x y h r = handed_same (λ n. n ∷ []) id_known x y h r
+
+pub told_same : (x y : RingProducer × Result SubmitResult RingError) → told_answer x.1 ≡ told_answer y.1 → x.0 ≡ y.0 → x ≡ y
+told_same x y h r = handed_same (λ s. s.id ∷ bit s.notify ∷ []) result_known x y h r
+
+pub polled_same : (x y : RingProducer × Result UsedBuffer RingError) → polled_answer x.1 ≡ polled_answer y.1 → x.0 ≡ y.0 → x ≡ y
+polled_same x y h r = handed_same (λ u. u.id ∷ u.len ∷ []) used_known x y h r
+
+pub answered_same : (x y : RingProducer × Result ⊤ RingError) → answer_of x.1 ≡ answer_of y.1 → x.0 ≡ y.0 → x ≡ y
+answered_same x y h r = handed_same (λ u. []) (λ u v e. refl) x y h r
 
 -- what is lent as `&` cannot change, and is left out of what is seen
 abbrev pub none : List ℕ
@@ -91,39 +87,39 @@ without_ids o = outcome o.answer o.end o.ring none o.counts
 abbrev pub without_ring : Outcome → Outcome
 without_ring o = outcome o.answer o.end none o.ids o.counts
 
-abbrev pub submitted_seen : Submitted × (List ℕ × (List ℕ × List ℕ)) → Outcome
-submitted_seen = all_seen submitted_answer submitted_record submitted_same
+abbrev pub submitted_seen : (RingProducer × Result ℕ RingError) × (List ℕ × (List ℕ × List ℕ)) → Outcome
+submitted_seen = all_seen (λ n. n ∷ []) id_known
 
-pub submitted_all : (x y : Submitted × (List ℕ × (List ℕ × List ℕ))) → submitted_seen x ≡ submitted_seen y → x ≡ y
-submitted_all = all_same submitted_answer submitted_record submitted_same
+pub submitted_all : (x y : (RingProducer × Result ℕ RingError) × (List ℕ × (List ℕ × List ℕ))) → submitted_seen x ≡ submitted_seen y → x ≡ y
+submitted_all = all_same (λ n. n ∷ []) id_known
 
-abbrev pub told_seen : SubmittedTold × (List ℕ × (List ℕ × List ℕ)) → Outcome
-told_seen = all_seen told_answer told_record told_same
+abbrev pub told_seen : (RingProducer × Result SubmitResult RingError) × (List ℕ × (List ℕ × List ℕ)) → Outcome
+told_seen = all_seen (λ s. s.id ∷ bit s.notify ∷ []) result_known
 
-pub told_all : (x y : SubmittedTold × (List ℕ × (List ℕ × List ℕ))) → told_seen x ≡ told_seen y → x ≡ y
-told_all = all_same told_answer told_record told_same
+pub told_all : (x y : (RingProducer × Result SubmitResult RingError) × (List ℕ × (List ℕ × List ℕ))) → told_seen x ≡ told_seen y → x ≡ y
+told_all = all_same (λ s. s.id ∷ bit s.notify ∷ []) result_known
 
-abbrev pub polled_seen : PolledUsed × (List ℕ × (List ℕ × List ℕ)) → Outcome
-polled_seen = all_seen polled_answer polled_record polled_same
+abbrev pub polled_seen : (RingProducer × Result UsedBuffer RingError) × (List ℕ × (List ℕ × List ℕ)) → Outcome
+polled_seen = all_seen (λ u. u.id ∷ u.len ∷ []) used_known
 
-pub polled_all : (x y : PolledUsed × (List ℕ × (List ℕ × List ℕ))) → polled_seen x ≡ polled_seen y → x ≡ y
-polled_all = all_same polled_answer polled_record polled_same
+pub polled_all : (x y : (RingProducer × Result UsedBuffer RingError) × (List ℕ × (List ℕ × List ℕ))) → polled_seen x ≡ polled_seen y → x ≡ y
+polled_all = all_same (λ u. u.id ∷ u.len ∷ []) used_known
 
-abbrev pub answered_seen : Answered × (List ℕ × (List ℕ × List ℕ)) → Outcome
-answered_seen = all_seen answer_of record_of answered_same
+abbrev pub answered_seen : (RingProducer × Result ⊤ RingError) × (List ℕ × (List ℕ × List ℕ)) → Outcome
+answered_seen = all_seen (λ u. []) (λ u v e. refl)
 
-pub answered_all : (x y : Answered × (List ℕ × (List ℕ × List ℕ))) → answered_seen x ≡ answered_seen y → x ≡ y
-answered_all = all_same answer_of record_of answered_same
+pub answered_all : (x y : (RingProducer × Result ⊤ RingError) × (List ℕ × (List ℕ × List ℕ))) → answered_seen x ≡ answered_seen y → x ≡ y
+answered_all = all_same (λ u. []) (λ u v e. refl)
 
-abbrev pub changed_seen : Answered × List ℕ → Changed
-changed_seen x = changed (answer_of x.0) (record_of x.0) x.1
+abbrev pub changed_seen : (RingProducer × Result ⊤ RingError) × List ℕ → Changed
+changed_seen x = changed (answer_of x.0.1) x.0.0 x.1
 
-pub changed_all : (x y : Answered × List ℕ) → changed_seen x ≡ changed_seen y → x ≡ y
+pub changed_all : (x y : (RingProducer × Result ⊤ RingError) × List ℕ) → changed_seen x ≡ changed_seen y → x ≡ y
 changed_all x y h i =
     (answered_same x.0 y.0 (ap (λ (o : Changed). o.answer) h) (ap (λ (o : Changed). o.end) h) i, (h i).ring)
 
-abbrev pub opened_seen : Opened × (List ℕ × List ℕ) → Open
+abbrev pub opened_seen : Result RingProducer RingError × (List ℕ × List ℕ) → Open
 opened_seen x = opened (opened_answer x.0) x.1.0 x.1.1
 
-pub opened_all : (x y : Opened × (List ℕ × List ℕ)) → opened_seen x ≡ opened_seen y → x ≡ y
+pub opened_all : (x y : Result RingProducer RingError × (List ℕ × List ℕ)) → opened_seen x ≡ opened_seen y → x ≡ y
 opened_all x y h i = (opened_same x.0 y.0 (ap (λ (o : Open). o.answer) h) i, ((h i).ids, (h i).counts))

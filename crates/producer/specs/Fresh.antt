@@ -1,7 +1,7 @@
 -- Opening and reset (document 01, "What each end does").
-use Rattle.std.specs.Prelude.{ℕ, ◌*◌, List, [], ◌∷◌, cond, ◌||◌, ltb, eqb, length, replicate}
-use Rattle.base.specs.Refusals.{number_of}
-use Rattle.base.specs.Answer.{Answer, done, refused, bit}
+use Rattle.std.specs.Prelude.{ℕ, ◌*◌, List, [], ◌∷◌, cond, ◌||◌, ltb, eqb, length, replicate, Result}
+use Rattle.base.specs.declared.RingError.{RingError}
+use Rattle.base.specs.Answer.{Answer, done, refused, bit, answer_by}
 use Rattle.std.proofs.lemmas.List.Edits.{sets}
 use Rattle.base.specs.Bytes.{put_of}
 use Rattle.cursor.specs.Cursor.{fresh}
@@ -10,8 +10,6 @@ use Rattle.layout.specs.declared.Layout.{Layout}
 use Rattle.layout.specs.Layout.{layout, bad_layout, outside}
 use Rattle.ring.specs.Tables.{up_to}
 use Rattle.producer.specs.declared.RingProducer.{RingProducer}
-use Rattle.producer.specs.declared.Opened.{Opened}
-use Rattle.producer.specs.declared.Opened.TheVariants.{Ring, Refused}
 use Rattle.producer.specs.Record.{lent_refusal}
 use Rattle.producer.specs.Outcome.{Outcome, outcome}
 
@@ -53,9 +51,8 @@ open_of size table driver device ring ids counts =
     (opened (done (record_values (fresh_of l))) (sets ids 0 (up_to size)) (sets counts 0 (replicate size 0))))
 
 -- the answer's cases, in the paper's number and values: a refused opening "gives the number alone"
-abbrev pub opened_answer : Opened → Answer
-opened_answer (Ring p) = done (record_values p)
-opened_answer (Refused e) = refused (number_of e)
+abbrev pub opened_answer : Result RingProducer RingError → Answer
+opened_answer r = answer_by record_values r
 
 -- "reset zeroes the table and the driver event, then everything is fresh"
 abbrev pub zeroed_of : Layout → List ℕ → List ℕ

@@ -1,19 +1,16 @@
 -- A completion polled, and the next ID (document 01, "What each end does", Producer).
-use Rattle.std.specs.Prelude.{ℕ, ◌+◌, List, [], ◌∷◌, not, cond, ◌||◌, ltb, leb, eqb, length, get_or, set}
-use Rattle.base.specs.Refusals.{number_of}
-use Rattle.base.specs.Answer.{Answer, done, refused}
+use Rattle.std.specs.Prelude.{ℕ, ◌+◌, List, [], ◌∷◌, not, cond, ◌||◌, ltb, leb, eqb, length, get_or, set, Result}
+use Rattle.base.specs.declared.RingError.{RingError}
+use Rattle.base.specs.Answer.{Answer, done, refused, answer_by}
 use Rattle.cursor.specs.Cursor.{steps}
 use Rattle.desc.specs.declared.Descriptor.{Descriptor}
 use Rattle.desc.specs.Flags.{is_used}
 use Rattle.ring.specs.Slots.{slot_of}
 use Rattle.producer.specs.declared.RingProducer.{RingProducer}
-use Rattle.producer.specs.declared.PolledUsed.{PolledUsed}
-use Rattle.producer.specs.declared.PolledUsed.TheVariants.{Used, Refused}
-use Rattle.producer.specs.declared.NextId.{NextId}
-use Rattle.producer.specs.declared.NextId.TheVariants as next
+use Rattle.producer.specs.declared.UsedBuffer.{UsedBuffer}
 use Rattle.producer.specs.Record.{bad_record, bad_lent}
 use Rattle.producer.specs.Outcome.{Outcome, outcome}
-use Rattle.producer.specs.Submit.{top_of}
+use Rattle.producer.specs.Submit.{top_of, top_refusal}
 
 -- "7, 8, then 3, .. then 5 for polls": 3 where the looked-at slot is not used; 5 where its ID is not below the size, has count 0,
 -- or in-flight would fall below 0, or the free stack would pass the size
@@ -51,22 +48,15 @@ poll_of p ring ids counts =
     let no = poll_refusal p (length ring) d (length ids) counts in
     cond (eqb no 0) (polled_of p d ring ids counts) (outcome (refused no) p ring ids counts)
 
--- the answer's cases, in the paper's number and values, and the record that each hands back
-abbrev pub polled_answer : PolledUsed → Answer
-polled_answer (Used u p) = done (u.id ∷ u.len ∷ [])
-polled_answer (Refused e p) = refused (number_of e)
-
-abbrev pub polled_record : PolledUsed → RingProducer
-polled_record (Used u p) = p
-polled_record (Refused e p) = p
+-- the answer's cases, in the paper's number and values
+abbrev pub polled_answer : Result UsedBuffer RingError → Answer
+polled_answer r = answer_by (λ u. u.id ∷ u.len ∷ []) r
 
 -- "7, 8, then 4, 5 for next_id"
 unfoldable pub next_refusal : RingProducer → List ℕ → List ℕ → ℕ
 next_refusal p ids counts =
     cond (bad_record p) 7
-    (cond (ltb (length ids) p.layout.size || ltb (length counts) p.layout.size) 8
-    (cond (eqb p.height 0) 4
-    (cond (leb p.layout.size (top_of p ids) || not (eqb (get_or counts (top_of p ids) 0) 0)) 5 0)))
+    (cond (ltb (length ids) p.layout.size || ltb (length counts) p.layout.size) 8 (top_refusal p ids counts))
 
 -- next_id: the ID on top of the stack, which the next submission gets
 unfoldable pub next_of : RingProducer → List ℕ → List ℕ → Answer
@@ -75,6 +65,5 @@ next_of p ids counts =
     cond (eqb no 0) (done (top_of p ids ∷ [])) (refused no)
 
 -- the answer's cases, in the paper's number and values
-abbrev pub next_answer : NextId → Answer
-next_answer (next.Id id) = done (id ∷ [])
-next_answer (next.Refused e) = refused (number_of e)
+abbrev pub next_answer : Result ℕ RingError → Answer
+next_answer r = answer_by (λ id. id ∷ []) r

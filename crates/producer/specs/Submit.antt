@@ -1,7 +1,7 @@
 -- A submission (document 01, "What each end does", Producer).
-use Rattle.std.specs.Prelude.{ℕ, zero, suc, ◌+◌, ◌-◌, List, [], ◌∷◌, not, cond, ◌||◌, ltb, leb, eqb, length, get_or, set}
-use Rattle.base.specs.Refusals.{number_of}
-use Rattle.base.specs.Answer.{Answer, done, refused}
+use Rattle.std.specs.Prelude.{ℕ, zero, suc, ◌+◌, ◌-◌, List, [], ◌∷◌, not, cond, ◌||◌, ltb, leb, eqb, length, get_or, set, Result}
+use Rattle.base.specs.declared.RingError.{RingError}
+use Rattle.base.specs.Answer.{Answer, done, refused, answer_by}
 use Rattle.cursor.specs.declared.RingCursor.{RingCursor}
 use Rattle.cursor.specs.Cursor.{step}
 use Rattle.desc.specs.declared.Descriptor.{Descriptor}
@@ -11,8 +11,6 @@ use Rattle.layout.specs.declared.Layout.{Layout}
 use Rattle.chain.specs.Chain.{bad_slices}
 use Rattle.ring.specs.Slots.{slot_put}
 use Rattle.producer.specs.declared.RingProducer.{RingProducer}
-use Rattle.producer.specs.declared.Submitted.{Submitted}
-use Rattle.producer.specs.declared.Submitted.TheVariants.{Id, Refused}
 use Rattle.producer.specs.Record.{bad_record, bad_lent}
 use Rattle.producer.specs.Outcome.{Outcome, outcome}
 
@@ -20,15 +18,19 @@ use Rattle.producer.specs.Outcome.{Outcome, outcome}
 abbrev pub top_of : RingProducer → List ℕ → ℕ
 top_of p ids = get_or ids (p.height - 1) 0
 
+-- 4 and 5 of submits and of next_id: no free ID, or one on top that is none of the ring's or has a count already
+abbrev pub top_refusal : RingProducer → List ℕ → List ℕ → ℕ
+top_refusal p ids counts =
+    cond (eqb p.height 0) 4
+    (cond (leb p.layout.size (top_of p ids) || not (eqb (get_or counts (top_of p ids) 0) 0)) 5 0)
+
 -- "7, 8, then 1, 3, 4, 5 for submits", and 0 where none of them is given
 unfoldable pub submit_refusal : RingProducer → ℕ → List ℕ → List ℕ → ℕ → ℕ → ℕ → ℕ
 submit_refusal p bytes ids counts n lens readable =
     cond (bad_record p) 7
     (cond (bad_lent p bytes (length ids) (length counts) || bad_slices n lens readable) 8
     (cond (eqb n 0) 1
-    (cond (ltb p.free n) 3
-    (cond (eqb p.height 0) 4
-    (cond (leb p.layout.size (top_of p ids) || not (eqb (get_or counts (top_of p ids) 0) 0)) 5 0)))))
+    (cond (ltb p.free n) 3 (top_refusal p ids counts))))
 
 -- element i: "the same ID everywhere, NEXT on all but the last"; WRITE behind the readable ones
 unfoldable pub element_of : ℕ → List ℕ → List ℕ → ℕ → ℕ → Descriptor
@@ -85,11 +87,6 @@ submit_of p ring ids counts addrs lens readable =
     (put_chain p.layout (element_of (top_of p ids) addrs lens readable) (length addrs) p.avail ring))
     (outcome (refused no) p ring ids counts)
 
--- the answer's cases, in the paper's number and values, and the record that each hands back
-abbrev pub submitted_answer : Submitted → Answer
-submitted_answer (Id id p) = done (id ∷ [])
-submitted_answer (Refused e p) = refused (number_of e)
-
-abbrev pub submitted_record : Submitted → RingProducer
-submitted_record (Id id p) = p
-submitted_record (Refused e p) = p
+-- the answer's cases, in the paper's number and values
+abbrev pub submitted_answer : Result ℕ RingError → Answer
+submitted_answer r = answer_by (λ id. id ∷ []) r

@@ -3,8 +3,9 @@
 
 ghost use Rattle.std.specs.Prelude.{◌≡◌, ◌≤◌, length, replicate};
 
-use lines::output;
-use replay_step::{Run, Turn, step};
+use replay_stage::memory::{AT_START, Memory, Store};
+use replay_step::{Run, step};
+use text::Line;
 
 const STDIN_FILENO: i32 = 0;
 
@@ -21,87 +22,64 @@ fn zeroed<const N: usize>() -> [u8; N]
     [0; N]
 }
 
-// Reads traces on standard input and writes what the port answers. Every slice has the length that the format names.
+// Reads traces on standard input and writes what the port answers.
 pub fn run_input() {
+    // A buffer of fixed size and how much of it was read: programs have no heap.
     let mut input = zeroed::<262144>();
     let mut out = zeroed::<262144>();
-    let mut region = zeroed::<65536>();
-    let mut ids = [0u16; 2048];
-    let mut taken = [0u16; 2048];
-    let mut held = [0u16; 2048];
-    let mut addrs = [0u64; 2048];
-    let mut lens = [0u32; 2048];
-    let mut registers = [0u16; 1280];
+    let mut memory = memory();
     let n = io::read_full(STDIN_FILENO, &mut input);
-    run_all(
-        &input[..n],
-        &mut out,
-        &mut region,
-        &mut ids,
-        &mut taken,
-        &mut held,
-        &mut addrs,
-        &mut lens,
-        &mut registers,
-    );
+    run_all(&input[..n], &mut out, &mut memory);
 }
 
-// The lent slices' lengths are the trace format's. Answers how many bytes of the input were run: all of them,
-// unless a record was bad or a line could not be written.
-pub fn run_all(
-    input: &[u8],
-    out: &mut [u8],
-    region: &mut [u8],
-    ids: &mut [u16],
-    taken: &mut [u16],
-    held: &mut [u16],
-    addrs: &mut [u64],
-    lens: &mut [u32],
-    registers: &mut [u16],
-) -> usize
+// Before the first trace. Nothing is lent: a header sets it all out.
+fn memory() -> Memory {
+    Memory {
+        region: store(0),
+        length: 0,
+        ids: store(0),
+        taken: store(0),
+        held: store(0),
+        addrs: store(0),
+        lens: store(0),
+        registers: [AT_START; 256],
+    }
+}
+
+fn store<T: Copy, const N: usize>(x: T) -> Store<T, N> {
+    Store {
+        all: [x; N],
+        lent: 0,
+    }
+}
+
+// Answers how many bytes of the input were run: all of them, unless a record was bad or a line could not be written.
+pub fn run_all(input: &[u8], out: &mut [u8], memory: &mut Memory) -> usize
     ensures { result ≤ length input.now }
 {
+    let mut line = Line::new(out, 0);
     let mut run = Run::new();
-    loop {
-        let n = emptied(out, run.out);
-        let turn = step(
-            run.said(n),
-            input,
-            out,
-            region,
-            ids,
-            taken,
-            held,
-            addrs,
-            lens,
-            registers,
-        );
-        match turn {
-            Turn::Ended(n) => {
-                write(out, n);
-                return run.at;
-            }
-            Turn::On(r) => {
-                run = r;
-            }
-        }
+    while let Some(next) = step(run, input, memory, &mut line) {
+        run = next;
+        make_room(&mut line);
     }
+    write(&line);
+    run.at
 }
 
-fn write(out: &[u8], n: usize) -> bool {
-    if n <= out.len() {
-        return io::write_all(STDOUT_FILENO, &out[0..n]);
+// Writes out what there is once a longest line might not fit behind it. Where that fails the next line is lost, which
+// ends the run.
+fn make_room(line: &mut Line<'_>) {
+    if LINE < line.out.len().saturating_sub(line.at) {
+        return;
     }
-    false
+    line.at = if write(line) { 0 } else { text::LOST };
 }
 
-// Writes the first n bytes out once a longest line might not fit behind them, and answers the next place. Where
-// that fails the next line is lost, which ends the run.
-fn emptied(out: &[u8], n: usize) -> usize {
-    if n < out.len() {
-        if LINE < out.len() - n {
-            return n;
-        }
-    }
-    if write(out, n) { 0 } else { text::LOST }
+// Nothing where a line did not fit.
+fn write(line: &Line<'_>) -> bool {
+    let at = line.at;
+    line.out
+        .get(..at)
+        .is_some_and(|lines| io::write_all(STDOUT_FILENO, lines))
 }

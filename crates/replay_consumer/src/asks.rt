@@ -1,22 +1,18 @@
-// What is asked of the consumer's record.
-use crate::Consumed;
+// What is asked of the consumer's record. (As of the producer's: a trait of the six questions, with its two impls, would be
+// longer than both.)
 use consumer::RingConsumer;
 use lines::answer::Answer;
-use lines::asked;
+use lines::{answer, asked};
 
-pub fn answer(op: u8, c: RingConsumer) -> Consumed {
+pub fn answer(c: RingConsumer, op: u8) -> Answer {
     match op {
-        37 => Consumed::said(c, counts(c)),
-        38 => Consumed::said(c, asked::cursor(c.avail_cursor())),
-        _ => Consumed::said(c, asked::cursor(c.used_cursor())),
+        37 => answer::four(
+            asked::value(c.num_free()),
+            asked::value(c.num_inflight()),
+            asked::value(c.is_full()),
+            asked::value(c.len()),
+        ),
+        38 => asked::cursor(c.avail_cursor()),
+        _ => asked::cursor(c.used_cursor()),
     }
-}
-
-fn counts(c: RingConsumer) -> Answer {
-    Answer::four(
-        asked::count(c.num_free()),
-        asked::count(c.num_inflight()),
-        asked::flag(c.is_full()),
-        asked::count(c.len()),
-    )
 }

@@ -1,59 +1,59 @@
-// Opening, polls, completions, reset.
-use crate::{Consumed, answered};
-use consumer::{CompletedTold, Opened, Polled, RingConsumer};
-use format::{header, input};
-use layout::Layout;
-use lines::answer;
-use lines::answer::Answer;
+// Opening again, polls, completions, reset.
+use base::bytes::Word;
+use consumer::RingConsumer;
+use format::{header, part};
+use lines::answer::{Answer, Values};
+use lines::{answer, asked, output};
+use replay_stage::memory::Memory;
+use text::Line;
 
 pub fn answer(
-    so_far: Consumed,
+    c: RingConsumer,
     op: u8,
     record: &[u8],
-    ring: &mut [u8],
-    counts: &mut [u16],
-) -> Consumed {
-    let c = so_far.consumer;
-    let id = input::half(record, 1);
-    let len = input::word(record, 3);
+    memory: &mut Memory,
+) -> (RingConsumer, Answer) {
+    let ring = memory.region.lent_mut();
+    let counts = memory.held.lent_mut();
+    let id = u16::read(record, 1);
+    let len = u32::read(record, 3);
     match op {
-        34 => answered(c.submit_used(ring, counts, id, len)),
-        35 => told(c.submit_used_with_notify(ring, counts, id, len)),
-        46 => answered(c.reset(ring, counts)),
-        _ => opened(so_far, open(header::geometry(op, record), ring, counts)),
+        34 => {
+            let (c, r) = c.submit_used(ring, counts, id, len);
+            (c, r.and(answer::done()))
+        }
+        35 => {
+            let (c, notify) = c.submit_used_with_notify(ring, counts, id, len);
+            (c, asked::value(notify))
+        }
+        46 => {
+            let (c, r) = c.reset(ring, counts);
+            (c, r.and(answer::done()))
+        }
+        _ => {
+            let l = header::geometry(op, record);
+            let opened = RingConsumer::new(l.size, l.table, l.driver, l.device, ring, counts);
+            // A refused opening leaves the record that was there.
+            (opened.unwrap_or(c), opened.and(answer::done()))
+        }
     }
 }
 
-fn open(l: Layout, ring: &[u8], counts: &mut [u16]) -> Opened {
-    RingConsumer::new(l.size, l.table, l.driver, l.device, ring, counts)
-}
-
-// A refused opening leaves the record that was there. Both ends are opened by one header, and the producer's refusal,
-// which came first, stands.
-fn opened(so_far: Consumed, o: Opened) -> Consumed {
-    let c = so_far.consumer;
-    if so_far.answer.status != 0 {
-        return so_far;
+// The op 33. A chain's elements are behind its numbers: as many as were polled.
+pub fn available(c: RingConsumer, memory: &mut Memory, line: &mut Line<'_>) -> RingConsumer {
+    let ring = memory.region.lent_mut();
+    let counts = memory.held.lent_mut();
+    let addrs = memory.addrs.lent_mut();
+    let lens = memory.lens.lent_mut();
+    let (c, polled) = c.poll_available(ring, counts, addrs, lens);
+    match polled {
+        Ok(chain) => {
+            let n = usize::from(chain.count);
+            let values = [chain.id.into(), chain.count.into(), chain.readable.into()];
+            output::answer(line, 33, Ok(Values::of(values)));
+            output::pairs(line, part::first(addrs, n), lens);
+        }
+        Err(e) => output::refused(line, 33, e),
     }
-    match o {
-        Opened::Ring(c) => Consumed::said(c, Answer::done()),
-        Opened::Refused(e) => Consumed::refused(c, e),
-    }
-}
-
-pub fn polled(p: Polled) -> Consumed {
-    match p {
-        Polled::Chain(chain, c) => Consumed::said(
-            c,
-            Answer::three(chain.id as u64, chain.count as u64, chain.readable as u64),
-        ),
-        Polled::Refused(e, c) => Consumed::refused(c, e),
-    }
-}
-
-fn told(t: CompletedTold) -> Consumed {
-    match t {
-        CompletedTold::Notify(b, c) => Consumed::said(c, Answer::one(answer::bit(b))),
-        CompletedTold::Refused(e, c) => Consumed::refused(c, e),
-    }
+    c
 }

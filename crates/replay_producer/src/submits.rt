@@ -1,93 +1,64 @@
 // Submissions.
-use crate::{Produced, chains};
+use crate::chains;
+use base::bytes::Word;
+use chain::BufferChain;
 use format::{input, part};
-use lines::answer;
-use lines::answer::Answer;
-use producer::{RingProducer, Submitted, SubmittedTold};
+use lines::answer::{Answer, Values};
+use producer::{RingProducer, SubmitResult};
+use replay_stage::memory::Memory;
 
 pub fn answer(
-    op: u8,
     p: RingProducer,
+    op: u8,
     record: &[u8],
-    ring: &mut [u8],
-    ids: &[u16],
-    counts: &mut [u16],
-) -> Produced {
+    memory: &mut Memory,
+) -> (RingProducer, Answer) {
     match op {
-        1 | 2 => one(op, p, record, ring, ids, counts),
-        _ => listed(op, p, record, ring, ids, counts),
+        1 | 2 => one(p, op, record, memory),
+        _ => listed(p, op, record, memory),
     }
+}
+
+fn one(p: RingProducer, op: u8, record: &[u8], memory: &mut Memory) -> (RingProducer, Answer) {
+    let addr = u64::read(record, 1);
+    let len = u32::read(record, 9);
+    let writable = input::bit(record, 13);
+    let ring = memory.region.lent_mut();
+    let ids = memory.ids.lent();
+    let counts = memory.taken.lent_mut();
+    if op == 2 {
+        let (p, r) = p.submit_one_with_notify(ring, ids, counts, addr, len, writable);
+        return (p, r.map(told));
+    }
+    let (p, id) = p.submit_one(ring, ids, counts, addr, len, writable);
+    (p, id.map(submitted))
 }
 
 // The chain that stands in the record.
-fn listed(
-    op: u8,
-    p: RingProducer,
-    record: &[u8],
-    ring: &mut [u8],
-    ids: &[u16],
-    counts: &mut [u16],
-) -> Produced {
+fn listed(p: RingProducer, op: u8, record: &[u8], memory: &mut Memory) -> (RingProducer, Answer) {
     let mut addrs = [0u64; 4096];
     let mut lens = [0u32; 4096];
-    chains::read(op, record, &mut addrs, &mut lens);
-    chain(
-        op,
-        p,
-        ring,
-        ids,
-        counts,
-        part::first64(&addrs, chains::addresses(record)),
-        part::first32(&lens, chains::lengths(op, record)),
-        chains::readable(op, record),
-    )
-}
-
-fn one(
-    op: u8,
-    p: RingProducer,
-    record: &[u8],
-    ring: &mut [u8],
-    ids: &[u16],
-    counts: &mut [u16],
-) -> Produced {
-    let addr = input::long(record, 1);
-    let len = input::word(record, 9);
-    let writable = input::bit(record, 13);
-    if op == 1 {
-        return submitted(p.submit_one(ring, ids, counts, addr, len, writable));
-    }
-    told(p.submit_one_with_notify(ring, ids, counts, addr, len, writable))
-}
-
-fn chain(
-    op: u8,
-    p: RingProducer,
-    ring: &mut [u8],
-    ids: &[u16],
-    counts: &mut [u16],
-    addrs: &[u64],
-    lens: &[u32],
-    readable: usize,
-) -> Produced {
+    let c = chains::read(op, record, &mut addrs, &mut lens);
+    let chain = BufferChain {
+        addrs: part::first(&addrs, usize::from(c.addrs)),
+        lens: part::first(&lens, usize::from(c.lens)),
+        readable: c.readable,
+    };
+    let ring = memory.region.lent_mut();
+    let ids = memory.ids.lent();
+    let counts = memory.taken.lent_mut();
     if op == 4 {
-        return told(p.submit_available_with_notify(ring, ids, counts, addrs, lens, readable));
+        let (p, r) = p.submit_available_with_notify(ring, ids, counts, chain);
+        return (p, r.map(told));
     }
-    submitted(p.submit_available(ring, ids, counts, addrs, lens, readable))
+    let (p, id) = p.submit_available(ring, ids, counts, chain);
+    (p, id.map(submitted))
 }
 
-fn submitted(s: Submitted) -> Produced {
-    match s {
-        Submitted::Id(id, p) => Produced::said(p, Answer::one(id as u64)),
-        Submitted::Refused(e, p) => Produced::refused(p, e),
-    }
+fn submitted(id: u16) -> Values {
+    Values::of([id.into()])
 }
 
-fn told(s: SubmittedTold) -> Produced {
-    match s {
-        SubmittedTold::Result(r, p) => {
-            Produced::said(p, Answer::two(r.id as u64, answer::bit(r.notify)))
-        }
-        SubmittedTold::Refused(e, p) => Produced::refused(p, e),
-    }
+fn told(r: SubmitResult) -> Values {
+    Values::of([r.id.into(), r.notify.into()])
 }

@@ -3,5 +3,6 @@
 
 pub mod hash;
 pub mod look;
+pub mod memory;
 mod region;
 pub mod stage;

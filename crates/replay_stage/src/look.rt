@@ -1,40 +1,37 @@
-// The records that only look: at the region's bytes, at a table's entries, at the outputs.
+// The records that only look: at the region's bytes, at the outputs, at a table's entries.
+use crate::memory::Memory;
+use base::bytes::Word;
 use format::{input, part};
 use lines::output;
+use text::Line;
 
-pub fn bytes(record: &[u8], region: &[u8], out: &mut [u8], n: usize) -> usize {
-    let at = input::word(record, 1) as usize;
-    let k = input::half(record, 5) as usize;
-    let n = output::start(out, n, 65, 0);
-    output::values8(out, n, part::first8(part::from8(region, at), k))
+pub fn bytes(record: &[u8], memory: &Memory, line: &mut Line<'_>) {
+    let from = u32::read(record, 1) as usize;
+    let k = usize::from(u16::read(record, 5));
+    output::start(line, 65, 0);
+    output::values(line, part::first(part::from(&memory.region.all, from), k));
 }
 
-pub fn outputs(record: &[u8], addrs: &[u64], lens: &[u32], out: &mut [u8], n: usize) -> usize {
-    let from = input::half(record, 1) as usize;
-    let k = input::half(record, 3) as usize;
-    let n = output::start(out, n, 72, 0);
-    let a = part::first64(part::from64(addrs, from), k);
-    output::pairs(out, n, a, part::from32(lens, from))
+pub fn outputs(record: &[u8], memory: &Memory, line: &mut Line<'_>) {
+    let from = usize::from(u16::read(record, 1));
+    let k = usize::from(u16::read(record, 3));
+    let addrs = part::first(part::from(&memory.addrs.all, from), k);
+    output::start(line, 72, 0);
+    output::pairs(line, addrs, part::from(&memory.lens.all, from));
 }
 
-pub fn table(
-    record: &[u8],
-    ids: &[u16],
-    taken: &[u16],
-    held: &[u16],
-    out: &mut [u8],
-    n: usize,
-) -> usize {
-    let n = output::start(out, n, 73, 0);
+pub fn table(record: &[u8], memory: &Memory, line: &mut Line<'_>) {
+    output::start(line, 73, 0);
+    // The tables' numbers are the format's (docs/TRACE.md).
     match input::byte(record, 1) {
-        0 => entries(record, ids, out, n),
-        1 => entries(record, taken, out, n),
-        _ => entries(record, held, out, n),
+        0 => entries(record, &memory.ids.all, line),
+        1 => entries(record, &memory.taken.all, line),
+        _ => entries(record, &memory.held.all, line),
     }
 }
 
-fn entries(record: &[u8], table: &[u16], out: &mut [u8], n: usize) -> usize {
-    let from = input::half(record, 2) as usize;
-    let k = input::half(record, 4) as usize;
-    output::values16(out, n, part::first16(part::from16(table, from), k))
+fn entries(record: &[u8], table: &[u16], line: &mut Line<'_>) {
+    let from = usize::from(u16::read(record, 2));
+    let k = usize::from(u16::read(record, 4));
+    output::values(line, part::first(part::from(table, from), k));
 }

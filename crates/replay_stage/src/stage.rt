@@ -1,54 +1,76 @@
-// What a trace does to the lent slices past the ends: it sets them out at its start, and overwrites them.
+// What a trace does to its memory past the ring's two ends: it sets it out at its start, and overwrites it.
+ghost use Rattle.std.specs.Prelude.{◌≡◌};
+
+use crate::memory::{AT_START, Memory};
 use crate::region;
+use base::bytes::Word;
 use base::{bytes, pick};
-use format::{fill, form, header, input, part};
+use consumer::Checkpoint;
+use format::lend::Lent;
+use format::{header, input, lend, part};
 
-// The region and the outputs.
-pub fn set_out(
-    op: u8,
-    record: &[u8],
-    length: usize,
-    region: &mut [u8],
-    addrs: &mut [u64],
-    lens: &mut [u32],
-) {
-    if op == header::OP {
-        region::sow(region, length, header::seed(record));
-        set_out_outputs(addrs, lens);
-        return;
-    }
-    overwrite(op, record, region);
+// As a trace starts: the region of the header's length and seed, every bit of the tables and the outputs 1, all lent.
+pub fn set_out(memory: &mut Memory, header: &[u8], length: usize)
+    ensures { memory.new.length ≡ length }
+{
+    region::sow(&mut memory.region.all, length, header::seed(header));
+    memory.length = length;
+    memory.ids.all.fill(u16::MAX);
+    memory.taken.all.fill(u16::MAX);
+    memory.held.all.fill(u16::MAX);
+    memory.addrs.all.fill(u64::MAX);
+    memory.lens.all.fill(u32::MAX);
+    memory.registers = [AT_START; 256];
+    lend(memory, lend::whole(length));
 }
 
-// Every bit is 1 at the start.
-fn set_out_outputs(addrs: &mut [u64], lens: &mut [u32]) {
-    fill::longs(addrs, form::ENTRIES, 18446744073709551615);
-    fill::words(lens, form::ENTRIES, 4294967295);
-}
-
-// The form's tests have seen to it that the place is within the region.
-fn overwrite(op: u8, record: &[u8], region: &mut [u8]) {
-    if op == 64 {
-        let at = input::word(record, 1) as usize;
-        bytes::put(region, at, part::from8(record, 7));
+// The ops 64, 68, 69 and 70, the format's bytes (docs/TRACE.md). None of them makes the region longer.
+pub fn overwrite(memory: &mut Memory, op: u8, record: &[u8])
+    ensures { memory.new.length ≡ memory.old.length }
+{
+    match op {
+        64 => set_bytes(memory, record),
+        68 => set_entry(memory, record),
+        69 => lend(memory, lend::read(record, memory.length)),
+        _ => memory.registers[usize::from(input::byte(record, 1))] = checkpoint(record),
     }
 }
 
-// The three tables: every bit 1 at the start, and entries that are set.
-pub fn set_tables(op: u8, record: &[u8], ids: &mut [u16], taken: &mut [u16], held: &mut [u16]) {
-    let which = input::byte(record, 1);
-    set_table(op, which == 0, record, ids);
-    set_table(op, which == 1, record, taken);
-    set_table(op, which == 2, record, held);
+fn lend(memory: &mut Memory, lent: Lent)
+    ensures { memory.new.length ≡ memory.old.length }
+{
+    memory.region.lent = lent.bytes;
+    memory.ids.lent = lent.ids;
+    memory.taken.lent = lent.taken;
+    memory.held.lent = lent.held;
+    memory.addrs.lent = lent.addrs;
+    memory.lens.lent = lent.lens;
 }
 
-fn set_table(op: u8, is_named: bool, record: &[u8], table: &mut [u16]) {
-    if op == header::OP {
-        fill::halves(table, form::ENTRIES, 65535);
-        return;
+fn set_bytes(memory: &mut Memory, record: &[u8])
+    ensures { memory.new.length ≡ memory.old.length }
+{
+    let at = u32::read(record, 1) as usize;
+    // Never refused: the form's tests have seen to it that the place is within the region.
+    let _ = bytes::put(&mut memory.region.all, at, part::from(record, 7));
+}
+
+fn set_entry(memory: &mut Memory, record: &[u8])
+    ensures { memory.new.length ≡ memory.old.length }
+{
+    let k = usize::from(u16::read(record, 2));
+    let v = u16::read(record, 4);
+    match input::byte(record, 1) {
+        0 => pick::set(&mut memory.ids.all, k, v),
+        1 => pick::set(&mut memory.taken.all, k, v),
+        _ => pick::set(&mut memory.held.all, k, v),
     }
-    if (op == 68) & is_named {
-        let k = input::half(record, 2) as usize;
-        pick::set16(table, k, input::half(record, 4));
+}
+
+fn checkpoint(record: &[u8]) -> Checkpoint {
+    Checkpoint {
+        avail: input::cursor(record, 2),
+        used: input::cursor(record, 5),
+        inflight: u16::read(record, 8),
     }
 }

@@ -1,49 +1,63 @@
-// The call that a record asks for. Each group of calls leaves what is not its own, so every record passes them all.
-use crate::Run;
-use format::{header, lend};
-use replay_stage::stage;
+// A trace's records, and the call that each asks for.
+use crate::{Ends, Trace};
+use format::{form, input};
+use lines::output;
+use replay_leaf::{leaf, parts};
+use replay_stage::memory::Memory;
+use replay_stage::{hash, look, stage};
+use text::Line;
 
-pub fn make(
-    run: Run,
-    record: &[u8],
-    region: &mut [u8],
-    ids: &mut [u16],
-    taken: &mut [u16],
-    held: &mut [u16],
-    addrs: &mut [u64],
-    lens: &mut [u32],
-    registers: &mut [u16],
-) -> Run {
-    let op = run.op;
-    stage::set_out(op, record, run.region, region, addrs, lens);
-    stage::set_tables(op, record, ids, taken, held);
-    let run = lent_anew(run, record);
-    let p = replay_producer::call(run.produced(), op, record, run.lent, region, ids, taken);
-    let run = run.with_producer(p);
-    let c = replay_consumer::call(
-        run.consumed(),
-        op,
-        record,
-        run.lent,
-        region,
-        held,
-        addrs,
-        lens,
-        registers,
-    );
-    opened(run.with_consumer(c))
+// The trace behind the record that stands at the start of s, and how many bytes that takes; none where it is bad or cut.
+// Where the ends are not open a record is passed over, and has no line.
+pub fn record(
+    trace: Trace,
+    s: &[u8],
+    memory: &mut Memory,
+    line: &mut Line<'_>,
+) -> Option<(Trace, usize)> {
+    let n = form::length(s, memory.length)?;
+    let record = s.get(..n)?;
+    let mut trace = trace;
+    // No wrap: the trace has a record left.
+    trace.done = trace.done.wrapping_add(1);
+    if let Some(before) = trace.ends {
+        let ends = call(before, record, memory, line);
+        output::last(line, hashed(trace, ends, memory).into());
+        trace.ends = Some(ends);
+    }
+    Some((trace, n))
 }
 
-fn lent_anew(r: Run, record: &[u8]) -> Run {
-    if r.op == 69 {
-        return r.lending(lend::read(record, r.region));
+// The line from the op to the last value, and the ends that the call leaves. The ops are the format's bytes
+// (docs/TRACE.md), which may not change.
+fn call(ends: Ends, record: &[u8], memory: &mut Memory, line: &mut Line<'_>) -> Ends {
+    let op = input::byte(record, 0);
+    match op {
+        1..=15 | 66 | 71 | 74 => {
+            let producer = replay_producer::call(ends.producer, op, record, memory, line);
+            return Ends { producer, ..ends };
+        }
+        33..=46 | 67 | 75 => {
+            let consumer = replay_consumer::call(ends.consumer, op, record, memory, line);
+            return Ends { consumer, ..ends };
+        }
+        64 | 68..=70 => {
+            stage::overwrite(memory, op, record);
+            output::start(line, op, 0);
+        }
+        65 => look::bytes(record, memory, line),
+        72 => look::outputs(record, memory, line),
+        73 => look::table(record, memory, line),
+        96..=106 => leaf::answer(op, record, ends.producer.desc_table(), line),
+        _ => parts::answer(op, record, line),
     }
-    r
+    ends
 }
 
-fn opened(r: Run) -> Run {
-    if r.op == header::OP {
-        return r.opened(r.answer.status == 0);
+// The hash where the record's line has one, and 0 elsewhere.
+fn hashed(trace: Trace, ends: Ends, memory: &Memory) -> u32 {
+    if trace.done == trace.records || trace.every != 0 && trace.done % trace.every == 0 {
+        return hash::of(ends.producer, ends.consumer, memory);
     }
-    r
+    0
 }

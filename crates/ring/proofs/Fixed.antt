@@ -1,7 +1,14 @@
 -- Each public contract of the crate determines what its function answers and leaves.
+use Prim.Native.Nat.{ℕ}
+use denote.RattleType.{RattleType}
+use denote.Param.Laws.{Laws, IsCopy}
+use mir.Syntax.{Dict}
+use Rattle.std.specs.declared.clone.Clone.{Ghosts}
+use Rattle.std.specs.declared.convert.From.{Ghosts as Froms}
+use Rattle.base.specs.declared.bytes.Word.{Ghosts as Words}
 use Rattle.base.specs.Determined.{Determined}
 use Rattle.base.proofs.Determine.{by_equation}
-use Rattle.ring.proofs.tables.zero.Reads as zero
+use Rattle.ring.proofs.tables.fill.Reads as fill
 use Rattle.ring.proofs.tables.count_up.Reads as count_up
 use Rattle.ring.proofs.look.Reads as look
 use Rattle.ring.proofs.write.Reads as write
@@ -24,8 +31,14 @@ arm_fixed = by_equation _ _ _ (λ κ a r s p. p)
 pub should_notify_evt_fixed : Determined should_notify_evt.Post (λ r s. r)
 should_notify_evt_fixed = by_equation _ _ _ (λ κ a r s p. p)
 
-pub zero_fixed : Determined zero.Post (λ r s. s.0.now)
-zero_fixed = by_equation _ _ _ (λ κ a r s p. p)
+-- for every type of entry
+module _ (t : RattleType) (l : Laws t) (c : IsCopy t) (g : Ghosts t.Denot) (d : Dict) where
+  pub fill_fixed : Determined (fill.Post t l c g d) (λ r s. s.0.now)
+  fill_fixed = by_equation _ _ _ (λ κ a r s p. p)
 
-pub count_up_fixed : Determined count_up.Post (λ r s. s.0.now)
-count_up_fixed = by_equation _ _ _ (λ κ a r s p. p)
+-- for every width of the words
+module _
+    (t : RattleType) (l : Laws t) (c : IsCopy t) (w : Words t.Denot) (wd : Dict) (g : Ghosts t.Denot) (d : Dict) (f : Froms t.Denot ℕ)
+    (fd : Dict) where
+  pub count_up_fixed : Determined (count_up.Post t l c w wd g d f fd) (λ r s. s.0.now)
+  count_up_fixed = by_equation _ _ _ (λ κ a r s p. p)

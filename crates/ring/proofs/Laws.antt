@@ -1,18 +1,16 @@
 -- Slots and event areas: a place that is no number of 64 bits is outside any slice, and what lies apart stays.
 -- Assumes nothing.
 use Prim.Native.Nat.{ℕ, zero, suc, ◌+◌, ◌^◌, ◌<◌}
-use mathlib.Core.Path.{◌≡◌, refl, sym, ◌∙◌, ap, ap₂}
+use mathlib.Core.Path.{◌≡◌, refl, sym, ◌∙◌, ap}
 use mathlib.Core.List.{List, [], ◌∷◌}
 use mathlib.Core.Bool.{cond}
 use native.Mathlib.Omega.{arith}
-use native.Mathlib.Nat.{zero-add}
 use lib.Dec.{leb}
-use lib.ListN.{length, get_or, take, set}
-use lib.Seq.{sets}
+use lib.ListN.{length, get_or}
 use borrow.Author.Tests.{le-leb, lt-leb, eq-eqb, ne_eqb}
 use Rattle.base.specs.Bytes.{put_of, get_of}
 use Rattle.base.proofs.Tests.{by_lt}
-use Rattle.base.proofs.Runs.{put_short, get_short, sets_more}
+use Rattle.base.proofs.Runs.{put_short, get_short}
 use Rattle.event.specs.Event.{set_flags}
 use Rattle.ring.specs.Events.{event_at, event_put, turned}
 use Rattle.ring.specs.Tables.{up_from}
@@ -66,10 +64,3 @@ unfolding up_from
 up_at i zero j h = absurd (omega arith)
 up_at i (suc k) zero h = omega arith
 up_at i (suc k) (suc j) h = up_at (suc i) k j (omega arith) ∙ omega arith
-
--- one entry more of a table that is filled from its start
-pub filled_more :
-    (vs l : List ℕ) (k v : ℕ) → k < length vs → get_or vs k 0 ≡ v
-    → set (sets l 0 (take k vs)) k v ≡ sets l 0 (take (k + 1) vs)
-filled_more vs l k v h e =
-    ap₂ (λ (i : ℕ) (x : ℕ). set (sets l 0 (take k vs)) i x) (sym (zero-add k)) (sym e) ∙ sets_more vs l 0 k h

@@ -1,27 +1,29 @@
-// The lent tables of 16-bit numbers, filled at opening and reset.
+// The lent tables, filled at opening and reset.
 // SPDX-License-Identifier: Apache-2.0
 // Copyright 2026 The Hyperlight Authors.
 // Translated from src/virtq/ring.rs of hyperlight-common 0.18.0 (the tables of RingProducer and RingConsumer) and changed: over lent slices.
-ghost use Rattle.std.specs.Prelude.{◌≡◌, replicate};
+ghost use Rattle.std.specs.Prelude.{◌≡◌, map, replicate};
 ghost use Rattle.std.proofs.lemmas.List.Edits.{sets};
 ghost use Rattle.ring.specs.Tables.{up_to};
 
-use base::pick;
+use base::bytes::Word;
 
-// Zeros in the first n entries.
-pub fn zero(counts: &mut [u16], n: u16)
-    ensures { counts.new ≡ sets counts.old 0 (replicate n 0) }
+// The same value in the first n entries, or in all that there are.
+pub fn fill<T: Copy>(s: &mut [T], n: u16, v: T)
+    ensures { s.new ≡ sets s.old 0 (replicate n v) }
 {
-    for k in 0..n {
-        pick::set16(counts, k as usize, 0);
+    let n = s.len().min(usize::from(n));
+    for x in s[..n].iter_mut() {
+        *x = v;
     }
 }
 
-// 0 upward in the first n entries.
-pub fn count_up(ids: &mut [u16], n: u16)
-    ensures { ids.new ≡ sets ids.old 0 (up_to n) }
+// 0 upward in the first n entries, or in all that there are.
+pub fn count_up<W: Word>(s: &mut [W], n: u16)
+    ensures { s.new ≡ sets s.old 0 (map W.of (up_to n)) }
 {
-    for k in 0..n {
-        pick::set16(ids, k as usize, k);
+    let k = s.len().min(usize::from(n));
+    for (i, x) in s[..k].iter_mut().enumerate() {
+        *x = W::from(i as u16);
     }
 }

@@ -1,4 +1,5 @@
 // What the programs print: words, numbers, and cases with what they should give; and whether what they read is records.
+// They write at once and not by `print!`: that would hand the runtime to every row of every table of cases, and is no plainer.
 #![tactic(auto)]
 
 ghost use Rattle.std.specs.Prelude.{◌≡◌, ◌+◌, ◌*◌, ◌%◌, ◌≤◌, if◌then◌else◌};
@@ -15,15 +16,11 @@ pub fn number(before: &[u8], n: u64) {
 }
 
 pub fn hex(b: u8) {
-    io::print_hex(STDOUT_FILENO, b as u64, 2);
+    io::print_hex(STDOUT_FILENO, u64::from(b), 2);
 }
 
 pub fn either(b: bool, yes: &[u8], no: &[u8]) {
-    if b {
-        words(yes);
-    } else {
-        words(no);
-    }
+    words(if b { yes } else { no });
 }
 
 // A case is told in a line: the call, what it gave and, where it is not so, what it should.
@@ -43,37 +40,22 @@ pub fn bit(b: bool) -> u64
     ensures value { result ≡ (if b then 1 else 0) }
     ensures upper_bound { result ≤ 1 }
 {
-    if b { 1 } else { 0 }
+    u64::from(b)
 }
 
-// A refusal as 1,000 for each number, and what is seen beside it.
+// A refusal as 1,000 for each number, and what is seen beside it. It stays over numbers: over `RingError` its promise would say
+// less, since there are nine of those.
 pub fn refusal(number: u8, seen: u64) -> u64
     ensures { result ≡ (1000 * number + seen) % 18446744073709551616 }
 {
-    std::num::wrapping_add_u64(1000 * (number as u64), seen)
+    (1000 * u64::from(number)).wrapping_add(seen)
 }
 
 // Is it one record or more, each of so many bytes and with one of these letters first?
 pub fn are_records(s: &[u8], width: usize, letters: &[u8]) -> bool {
-    if width == 0 {
+    if width == 0 || s.is_empty() || s.len() % width != 0 {
         return false;
     }
-    if (s.len() == 0) | (s.len() % width != 0) {
-        return false;
-    }
-    for i in 0..s.len() {
-        if (i % width == 0) & !is_among(s[i], letters) {
-            return false;
-        }
-    }
-    true
-}
-
-fn is_among(b: u8, letters: &[u8]) -> bool {
-    for k in 0..letters.len() {
-        if letters[k] == b {
-            return true;
-        }
-    }
-    false
+    s.chunks(width)
+        .all(|r| r.first().is_some_and(|b| letters.contains(b)))
 }

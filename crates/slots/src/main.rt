@@ -5,6 +5,7 @@
 const STDOUT_FILENO: i32 = 1;
 
 fn main() {
+    // A buffer of fixed size and how much of it was read: programs have no heap.
     let mut input = io::large_buffer();
     let n = io::read_full(0, &mut input);
     if n == input.len() {
@@ -15,14 +16,14 @@ fn main() {
 }
 
 // A heading, 2,048 slots and a line for those that are not whole are the most that there are. No line is lost: none has
-// more than 160 bytes, so each is whole in the buffer (`line_told` in dump/proofs/Short.antt).
+// more than 160 bytes, so each is whole in the buffer (`line_shown` in dump/proofs/Short.antt).
 fn show(input: &[u8]) {
     let mut text = [0u8; 192];
+    // Lines are asked for by number.
     for k in 0..2050 {
-        let n = dump::line_of(input, k, &mut text);
-        if n == 0 {
+        let Some(n) = dump::line_of(input, k, &mut text) else {
             return;
-        }
+        };
         io::write_all(STDOUT_FILENO, &text[..n]);
     }
 }

@@ -4,61 +4,77 @@
 use base::RingError;
 use consumer::PolledChain;
 use cursor::RingCursor;
-use ring::{AskedCount, AskedCursor};
 use say::{number, words};
 
 // "size 4, CASE:", the size as the ring itself says it.
-pub fn case(size: AskedCount, name: &[u8]) {
+pub fn case(size: Result<u16, RingError>, name: &[u8]) {
     match size {
-        AskedCount::Is(n) => sized(n, name),
-        AskedCount::Refused(e) => refused(e),
+        Ok(n) => sized(n, name),
+        Err(e) => refused(e),
     }
 }
 
 pub fn sized(size: u16, name: &[u8]) {
-    number(b"size ", size as u64);
+    number(b"size ", u64::from(size));
     words(b", ");
     words(name);
     words(b":");
 }
 
-pub fn refused(e: RingError) {
-    number(b" refused ", e.number() as u64);
+fn refused(e: RingError) {
+    number(b" refused ", u64::from(e.number()));
 }
 
-// A ring that the case needs and that is not there.
-pub fn missing(e: RingError) {
-    words(b"no ring:");
-    refused(e);
-    words(b"\n");
+// What keeps a case from being run: a ring that does not open, a call that it begins with.
+pub fn missing(case: Result<(), RingError>) {
+    if let Err(e) = case {
+        words(b"no ring:");
+        refused(e);
+        words(b"\n");
+    }
 }
 
-pub fn id(id: u16) {
-    number(b" id ", id as u64);
+pub fn id(answer: Result<u16, RingError>) {
+    match answer {
+        Ok(id) => number(b" id ", u64::from(id)),
+        Err(e) => refused(e),
+    }
 }
 
-pub fn chain(c: PolledChain) {
-    id(c.id);
-    number(b", elements ", c.count as u64);
+pub fn chain(answer: Result<PolledChain, RingError>) {
+    match answer {
+        Ok(c) => {
+            id(Ok(c.id));
+            number(b", elements ", u64::from(c.count));
+        }
+        Err(e) => refused(e),
+    }
 }
 
-pub fn opened(size: AskedCount) {
+pub fn done(answer: Result<(), RingError>) {
+    match answer {
+        Ok(()) => words(b" done"),
+        Err(e) => refused(e),
+    }
+}
+
+pub fn opened(size: Result<u16, RingError>) {
     match size {
-        AskedCount::Is(n) => number(b" opened, size ", n as u64),
-        AskedCount::Refused(e) => refused(e),
+        Ok(n) => number(b" opened, size ", u64::from(n)),
+        Err(e) => refused(e),
     }
 }
 
 // ", cursor HEAD WRAP" ends a line.
-pub fn cursor(asked: AskedCursor) {
+pub fn cursor(asked: Result<RingCursor, RingError>) {
     match asked {
-        AskedCursor::At(c) => at(c),
-        AskedCursor::Refused(e) => refused(e),
+        Ok(c) => at(c),
+        Err(e) => refused(e),
     }
     words(b"\n");
 }
 
 fn at(c: RingCursor) {
-    number(b", cursor ", c.head() as u64);
+    number(b", cursor ", u64::from(c.head()));
     say::either(c.wrap(), b" 1", b" 0");
 }

@@ -1,76 +1,81 @@
-// Text put into a lent buffer from a place on. Each function answers the next place.
+// Text put into a lent buffer, from a place on.
 #![tactic(auto)]
 
-ghost use Rattle.std.specs.Prelude.{◌≡◌};
-ghost use Rattle.text.specs.Text.{number_of, blanks_of, right_of, hex_of, written, put_text, puts};
+ghost use Rattle.std.specs.Prelude.{◌≡◌, min};
+ghost use Rattle.text.specs.Text.{number_of, blanks_of, right_of, hex_of, put_text, puts, written};
+ghost use Rattle.text.specs.Line.{written_in};
 
-use base::{bytes, pick};
+use base::bytes;
 
 // The place that stands for text that did not fit. Nothing is put there, so it stays: whoever writes the buffer out sees
-// it once, at the end.
-pub const LOST: usize = 18446744073709551615;
+// it once, at the end. (A number and no Option: it is a place of `put_text`, and so no put has to ask for it.)
+pub const LOST: usize = usize::MAX;
 
-// Text, whole or not at all.
-pub fn put(out: &mut [u8], n: usize, text: &[u8]) -> usize
-    ensures { written result out.new ≡ put_text text.now (written n out.old) }
-{
-    let end = out.len();
-    if pick::ends_by(n, text.len(), end) {
-        bytes::put(out, n, text);
-        return n + text.len();
+// A lent buffer, and the place where it is written next. A clause `lent` says that it is still the same buffer.
+#[derive(Drop)]
+pub struct Line<'a> {
+    pub out: &'a mut [u8],
+    pub at: usize,
+}
+
+impl<'a> Line<'a> {
+    pub fn new(out: &'a mut [u8], at: usize) -> Line<'a>
+        ensures lent { result.out.ghost_name ≡ out.entry.ghost_name }
+        ensures text { written_in result ≡ written at out.old }
+    {
+        Line { out, at }
     }
-    LOST
-}
 
-// A number in decimal and the byte behind it, both or neither.
-pub fn number(out: &mut [u8], n: usize, x: u64, end: u8) -> usize
-    ensures { written result out.new ≡ put_text (number_of end x) (written n out.old) }
-{
-    let mut text = [0u8; 20];
-    let k = io::decimal(x, &mut text);
-    if pick::ends_by(n, k + 1, out.len()) {
-        bytes::put(out, n, &text[..k]);
-        out[n + k] = end;
-        return n + k + 1;
+    // Text, whole or not at all.
+    pub fn put(&mut self, text: &[u8])
+        ensures lent { self.new.out.ghost_name ≡ self.old.out.ghost_name }
+        ensures text { written_in self.new ≡ put_text text.now (written_in self.old) }
+    {
+        self.at = match bytes::put(self.out, self.at, text) {
+            Ok(()) => self.at + text.len(),
+            Err(_) => LOST,
+        };
     }
-    LOST
-}
 
-// A number in decimal at the right of a column, behind at most twenty blanks; one that is wider takes the room that it
-// needs.
-pub fn right(out: &mut [u8], n: usize, x: u64, width: usize) -> usize
-    ensures { written result out.new ≡ puts (right_of width x) (written n out.old) }
-{
-    let mut text = [0u8; 20];
-    let k = io::decimal(x, &mut text);
-    let n = blanks(out, n, pick::less(width, k));
-    put(out, n, &text[..k])
-}
-
-// At most twenty blanks.
-fn blanks(out: &mut [u8], n: usize, k: usize) -> usize
-    ensures { written result out.new ≡ put_text (blanks_of k) (written n out.old) }
-{
-    let line = [b' '; 20];
-    if k < 20 {
-        return put(out, n, &line[..k]);
+    // A number in decimal and the byte behind it, both or neither.
+    pub fn number(&mut self, x: u64, end: u8)
+        ensures lent { self.new.out.ghost_name ≡ self.old.out.ghost_name }
+        ensures text { written_in self.new ≡ put_text (number_of end x) (written_in self.old) }
+    {
+        let mut digits = [0u8; 20];
+        let k = io::decimal(x, &mut digits);
+        let mut text = [end; 21];
+        text[..k].copy_from_slice(&digits[..k]);
+        self.put(&text[..=k]);
     }
-    put(out, n, &line)
-}
 
-// All digits of a number of its width, in hexadecimal.
-pub fn hex16(out: &mut [u8], n: usize, x: u64) -> usize
-    ensures { written result out.new ≡ put_text (hex_of 16 x) (written n out.old) }
-{
-    let mut text = [0u8; 16];
-    let k = io::hex(x, 16, &mut text);
-    put(out, n, &text[..k])
-}
+    // A number in decimal at the right of a column, behind at most twenty blanks; one that is wider takes the room that it
+    // needs.
+    pub fn right(&mut self, x: u64, width: usize)
+        ensures lent { self.new.out.ghost_name ≡ self.old.out.ghost_name }
+        ensures text { written_in self.new ≡ puts (right_of width x) (written_in self.old) }
+    {
+        let mut digits = [0u8; 20];
+        let k = io::decimal(x, &mut digits);
+        self.blanks(width.saturating_sub(k));
+        self.put(&digits[..k]);
+    }
 
-pub fn hex4(out: &mut [u8], n: usize, x: u16) -> usize
-    ensures { written result out.new ≡ put_text (hex_of 4 x) (written n out.old) }
-{
-    let mut text = [0u8; 16];
-    let k = io::hex(x as u64, 4, &mut text);
-    put(out, n, &text[..k])
+    // At most twenty blanks.
+    fn blanks(&mut self, k: usize)
+        ensures lent { self.new.out.ghost_name ≡ self.old.out.ghost_name }
+        ensures text { written_in self.new ≡ put_text (blanks_of k) (written_in self.old) }
+    {
+        self.put(&[b' '; 20][..k.min(20)]);
+    }
+
+    // The last digits of a number in hexadecimal, at most sixteen.
+    pub fn hex(&mut self, x: u64, digits: usize)
+        ensures lent { self.new.out.ghost_name ≡ self.old.out.ghost_name }
+        ensures text { written_in self.new ≡ put_text (hex_of (min digits 16) x) (written_in self.old) }
+    {
+        let mut all = [0u8; 16];
+        io::hex(x, 16, &mut all);
+        self.put(&all[16 - digits.min(16)..]);
+    }
 }

@@ -5,8 +5,8 @@ use lib.Seq.{set_comm}
 use borrow.Author.Tests.{eqb-false, lt-leb}
 use Rattle.base.specs.Answer.{Answer, done, refused}
 use Rattle.base.proofs.Tests.{split, by_lt, by_eq, neither, positive}
-use Rattle.undo.specs.Undo.{named, bad_ids, total_of}
-use Rattle.undo.proofs.Marks.{mark, flip, stops, walked}
+use Rattle.undo.specs.Undo.{named, bad_ids, total_of, mark, flip}
+use Rattle.undo.proofs.Marks.{stops, walked}
 
 -- an ID at the head of the list, by the tests' own words
 module _ (size : ℕ) (t : List ℕ) (left id : ℕ) where

@@ -1,23 +1,12 @@
 -- What callers use of a sum and of a clearing, and not their definitions.
 -- Assumes nothing.
-use Rattle.std.proofs.Common.{◌≡◌, ℕ, ◌+◌, ◌<◌, ◌≤◌, Bool, true, false, cond, ◌||◌, eqb, ltb, leb, ◌⊎◌, List, [], ◌∷◌, length, get_or, drop, set, sym, refl, ap, ◌∙◌, inl, inr, ⊎_elim, add-one, arith, length-set, drop_of_length-le, drop-cons, get_or-set_other, get_or-set_same, le-ltb, lt-ltb, ne_eqb}
+use Rattle.std.proofs.Common.{◌≡◌, ℕ, ◌+◌, ◌<◌, ◌≤◌, Bool, true, false, cond, ◌||◌, eqb, ltb, leb, ◌⊎◌, List, [], ◌∷◌, length, get_or, drop, set, sym, refl, ap, ◌∙◌, inl, inr, ⊎_elim, add-one, arith, length-set, drop_of_length-le, drop-cons, get_or-set_other, get_or-set_same, le-ltb, ne_eqb}
 use borrow.Author.Tests.{eqb-false}
 use Rattle.base.specs.Answer.{Answer, done, refused}
 use Rattle.base.proofs.Tests.{split, by_lt, by_eq, neither}
 use Rattle.undo.specs.Undo.{named, bad_ids, total_of, sum_of, cleared_of}
 use Rattle.undo.proofs.Marks.{walked}
 use Rattle.undo.proofs.Judged.{judge, judge_bad, judge_over, judge_good, judged}
-
--- the order of the refusals: 7, then 8
-module _ (size most : ℕ) (counts ids : List ℕ) where
-  pub sum_bad_record : (ltb 32768 size || ltb size most) ≡ true → sum_of size most counts ids ≡ refused 7
-  unfolding sum_of
-  sum_bad_record e = simp e
-
-  pub sum_bad_lent :
-      (ltb 32768 size || ltb size most) ≡ false → length counts < size → sum_of size most counts ids ≡ refused 8
-  unfolding sum_of
-  sum_bad_lent e h = simp (e, lt-ltb (length counts) size h)
 
 module _ (size most : ℕ) (counts ids : List ℕ) (s : size ≤ 32768) (m : most ≤ size) (l : size ≤ length counts) where
   -- then 9, or the sum

@@ -1,9 +1,7 @@
 -- A list of IDs, and the table of each ID's chain length (document 01, "Rollback is refused with 9 exactly if ..").
-use Rattle.std.specs.Prelude.{ℕ, ◌+◌, Bool, false, cond, ◌||◌, List, [], ◌∷◌, length, ◌==◌, nat_le, nat_lt, slice_index, slice_set}
-use Rattle.base.specs.Refusals.{number_of}
-use Rattle.base.specs.Answer.{Answer, done, refused}
-use Rattle.undo.specs.declared.Summed.{Summed}
-use Rattle.undo.specs.declared.Summed.TheVariants.{Slots, Refused}
+use Rattle.std.specs.Prelude.{ℕ, ◌+◌, ◌-◌, ◌%◌, Bool, false, cond, ◌||◌, List, [], ◌∷◌, length, ◌==◌, nat_le, nat_lt, slice_index, slice_set, Result}
+use Rattle.base.specs.declared.RingError.{RingError}
+use Rattle.base.specs.Answer.{Answer, done, refused, answer_by}
 
 -- an ID is named in a list
 unfoldable pub named : ℕ → List ℕ → Bool
@@ -30,10 +28,9 @@ sum_of size most counts ids =
     (cond (bad_ids size counts ids || nat_lt most (total_of counts ids)) (refused 9)
     (done (total_of counts ids ∷ []))))
 
--- the answer's cases, in the paper's number and values
-abbrev pub answer_of : Summed → Answer
-answer_of (Slots n) = done (n ∷ [])
-answer_of (Refused e) = refused (number_of e)
+-- the answer, in the paper's number and values
+abbrev pub answer_of : Result ℕ RingError → Answer
+answer_of r = answer_by (λ n. n ∷ []) r
 
 -- what a call leaves that was lent the table: its answer and the table at exit
 pub record Outcome : Type 0 where
@@ -47,3 +44,14 @@ outcome a t = record { answer = a; counts = t }
 unfoldable pub cleared_of : List ℕ → List ℕ → List ℕ
 cleared_of counts [] = counts
 cleared_of counts (id ∷ ids) = cleared_of (slice_set counts id 0) ids
+
+-- the marks of a sum's first pass, which nobody sees: the entry v becomes 65,536 - v, and 0 stays 0
+abbrev pub mark : ℕ → ℕ
+mark v = (65536 - v) % 65536
+
+abbrev pub flip : List ℕ → ℕ → List ℕ
+flip t id = slice_set t id (mark (slice_index t id))
+
+unfoldable pub flipped : List ℕ → List ℕ → List ℕ
+flipped t [] = t
+flipped t (id ∷ ids) = flipped (flip t id) ids

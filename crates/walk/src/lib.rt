@@ -3,7 +3,7 @@
 // Copyright 2026 The Hyperlight Authors.
 // Translated from src/virtq/ring.rs of hyperlight-common 0.18.0 (RingConsumer's poll_available) and changed: a walk that
 // only counts, and a copy into lent slices, so that a chain that is refused leaves nothing behind.
-#![tactic(auto)]
+#![tactic(auto, unfolding(crate::specs::Walk::look_of))]
 
 ghost use Rattle.std.specs.Prelude.{◌≡◌, map, ◌<◌};
 ghost use Rattle.std.proofs.lemmas.List.Edits.{sets};
@@ -15,8 +15,8 @@ use cursor::RingCursor;
 use desc::Descriptor;
 
 // How far a walk has come: the next slot, what was counted, whether NEXT says that there is more, whether a writable element was
-// seen, and whether the chain is bad.
-#[derive(Clone, Copy)]
+// seen, and whether the chain is bad. Its fields stay as they are: `look_of` and `walk_of` of specs/ are said of them.
+#[derive(Clone, Copy, PartialEq, Eq)]
 pub struct Walk {
     pub at: RingCursor,
     pub count: u16,
@@ -32,62 +32,59 @@ fn look(w: Walk, d: Descriptor, size: u16) -> Walk
     ensures { result ≡ look_of size w d }
 {
     let write = d.is_writable();
-    let bad = d.is_indirect() | (!write & w.writing);
+    let bad = d.is_indirect() || (!write && w.writing);
     Walk {
         at: w.at.stepped(size),
         count: w.count + 1,
-        readable: w.readable + pick::pick16(write, 0, 1),
-        more: d.is_next() & !bad,
-        writing: write | w.writing,
+        readable: w.readable + u16::from(!write),
+        more: d.is_next() && !bad,
+        writing: write || w.writing,
         bad,
     }
 }
 
-// The chain at the cursor, at most `size` slots of it.
-pub fn chain(ring: &[u8], table: usize, size: u16, from: RingCursor) -> Walk
-    ensures { result ≡ walk_of table size ring.now size (start from) }
-{
-    let mut w = Walk {
-        at: from,
-        count: 0,
-        readable: 0,
-        more: true,
-        writing: false,
-        bad: false,
-    };
-    let mut left = size;
-    while 0 < left {
-        let more = w.more;
-        if !more {
-            return w;
-        }
-        let d = ring::look(ring, table, w.at);
-        w = look(w, d, size);
-        left -= 1;
-    }
-    w
+// The slots of a ring: the lent bytes, where the table of slots begins in them, and how many there are.
+#[derive(Clone, Copy)]
+pub struct Slots<'a> {
+    pub ring: &'a [u8],
+    pub table: usize,
+    pub size: u16,
 }
 
-// The addresses and lengths of n slots from the cursor on, as far as there is room for them.
-pub fn copy_out(
-    ring: &[u8],
-    table: usize,
-    size: u16,
-    from: RingCursor,
-    n: u16,
-    addrs: &mut [u64],
-    lens: &mut [u32],
-)
-    ensures { (addrs.new ≡ sets addrs.old 0 (map addr_of (slots_from table size ring.now from n)))
-        × (lens.new ≡ sets lens.old 0 (map len_of (slots_from table size ring.now from n))) }
-{
-    let mut c = from;
-    let mut i = 0;
-    while i < n {
-        let d = ring::look(ring, table, c);
-        pick::set64(addrs, i as usize, d.addr);
-        pick::set32(lens, i as usize, d.len);
-        c = c.stepped(size);
-        i += 1;
+impl Slots<'_> {
+    // The chain at the cursor, at most `size` slots of it.
+    pub fn chain(self, from: RingCursor) -> Walk
+        ensures { result ≡ walk_of self.entry.table self.entry.size self.entry.ring.now self.entry.size (start from) }
+    {
+        let mut w = Walk {
+            at: from,
+            count: 0,
+            readable: 0,
+            more: true,
+            writing: false,
+            bad: false,
+        };
+        for _ in 0..self.size {
+            if !w.more {
+                return w;
+            }
+            w = look(w, ring::look(self.ring, self.table, w.at), self.size);
+        }
+        w
+    }
+
+    // The addresses and lengths of n slots from the cursor on, as far as there is room for them.
+    pub fn copy_out(self, from: RingCursor, n: u16, addrs: &mut [u64], lens: &mut [u32])
+        ensures { (addrs.new ≡ sets addrs.old 0 (map addr_of (slots_from self.entry.table self.entry.size self.entry.ring.now from n)))
+            × (lens.new ≡ sets lens.old 0 (map len_of (slots_from self.entry.table self.entry.size self.entry.ring.now from n))) }
+    {
+        let mut c = from;
+        // by place, and not over both slices at once: each takes what it has room for, also where the other is shorter
+        for i in 0..usize::from(n) {
+            let d = ring::look(self.ring, self.table, c);
+            pick::set(addrs, i, d.addr);
+            pick::set(lens, i, d.len);
+            c = c.stepped(self.size);
+        }
     }
 }

@@ -23,8 +23,7 @@ use Rattle.desc.specs.Desc.{descriptor, encode_of, decode_of}
 use Rattle.desc.proofs.Trips.{Ranged}
 use Rattle.ring.specs.Slots as ends
 use Rattle.ring.proofs.Frames.{slot_decoded, slot_stored, slot_length, slot_same}
-use Rattle.window.specs.declared.Slot.{Slot}
-use Rattle.window.specs.declared.Slot.TheVariants.{Holds, Nothing}
+use Rattle.std.specs.Prelude.{Option, Some, None}
 use Rattle.window.specs.declared.Window.{Window}
 use Rattle.window.specs.Window.{window, answer_of, shown_of}
 use Rattle.window.proofs.Laws.{shown, past, cut, answer_same}
@@ -38,7 +37,7 @@ use Rattle.window.specs.contracts.slot_at as at
 use Rattle.window.proofs.slot_at.Reads as slot_at
 
 abbrev holding : Descriptor → Answer
-holding d = answer_of (Holds d)
+holding d = answer_of (Some d)
 
 module _ (ring : List ℕ) (table size : ℕ) where
   -- "gives slot i": below the size and whole in the bytes, what is shown is load and decode of the slot
@@ -61,13 +60,13 @@ module _ (ring : List ℕ) (table size : ℕ) where
 
   -- "or nothing where i is not below the size or the slot is not whole in the bytes": then, and only then
   pub nothing_then :
-      (i : ℕ) → (size ≤ i) ⊎ (length ring < table + i * 16 + 16) → shown_of (drop table ring) size i ≡ answer_of Nothing
+      (i : ℕ) → (size ≤ i) ⊎ (length ring < table + i * 16 + 16) → shown_of (drop table ring) size i ≡ answer_of None
   nothing_then i o =
       ⊎_elim (λ h. past (drop table ring) size i h)
       (λ w. cut (drop table ring) size i (omega (arith, length-drop table ring))) o
 
   pub only_then :
-      (i : ℕ) → shown_of (drop table ring) size i ≡ answer_of Nothing → (size ≤ i) ⊎ (length ring < table + i * 16 + 16)
+      (i : ℕ) → shown_of (drop table ring) size i ≡ answer_of None → (size ≤ i) ⊎ (length ring < table + i * 16 + 16)
   only_then i e =
       by_lt i size
       (λ h. by_lt (length ring) (table + i * 16 + 16) (λ w. inr w)
@@ -76,30 +75,30 @@ module _ (ring : List ℕ) (table size : ℕ) where
 
   -- so where a slot shows nothing, no later one shows anything
   pub nothing_behind :
-      (i j : ℕ) → i ≤ j → shown_of (drop table ring) size i ≡ answer_of Nothing → shown_of (drop table ring) size j ≡ answer_of Nothing
+      (i j : ℕ) → i ≤ j → shown_of (drop table ring) size i ≡ answer_of None → shown_of (drop table ring) size j ≡ answer_of None
   nothing_behind i j l e = nothing_then j (⊎_elim (λ h. inl (omega arith)) (λ h. inr (omega arith)) (only_then i e))
 
-held : (x : Slot) (bs b : List ℕ) (d : Descriptor) → answer_of x ≡ holding (decode_of bs) → b ≡ bs → d ≡ decode_of b → x ≡ Holds d
-held x bs b d px pb pd = answer_same x (Holds d) (px ∙ ap holding (ap decode_of (sym pb) ∙ sym pd))
+held : (x : Option Descriptor) (bs b : List ℕ) (d : Descriptor) → answer_of x ≡ holding (decode_of bs) → b ≡ bs → d ≡ decode_of b → x ≡ Some d
+held x bs b d px pb pd = answer_same x (Some d) (px ∙ ap holding (ap decode_of (sym pb) ∙ sym pd))
 
 -- the same of the functions' own contracts: whatever `slot_at`, `desc::load` and `Descriptor::decode` may answer by them, what `slot_at` answers
 -- holds what the other two make of the slot
 pub by_contract :
     (κ : Lfts 1) (ring : Bor (List ℕ)) (table size i : ℕ) → i < size → table + i * 16 + 16 ≤ length ring.now
-    → (x : Slot) (sx : AtExit at.ended κ) → slot_at.Post κ (ring, (table, (size, (i, tt)))) x sx
+    → (x : Option Descriptor) (sx : AtExit at.ended κ) → slot_at.Post κ (ring, (table, (size, (i, tt)))) x sx
     → (b : List ℕ) (sb : AtExit loads.ended κ) → load.Post κ (ring, (table + i * 16, tt)) b sb
     → (d : Descriptor) (sd : AtExit decodes.ended tt) → decode.Post tt (b, tt) d sd
-    → x ≡ Holds d
+    → x ≡ Some d
 by_contract κ ring table size i h w x sx px b sb pb d sd pd =
     held x (get_of ring.now (table + i * 16) 16) b d (px ∙ load_and_decode ring.now table size i h w) pb pd
 
 -- and whatever `Window::slot` may answer of a window
 pub slot_by_contract :
     (κ : Lfts 1) (v : Window) (i : ℕ) → i < v.size → i * 16 + 16 ≤ length v.table.now
-    → (x : Slot) (sx : AtExit slot.ended κ) → slot_reads.Post κ (v, (i, tt)) x sx
+    → (x : Option Descriptor) (sx : AtExit slot.ended κ) → slot_reads.Post κ (v, (i, tt)) x sx
     → (b : List ℕ) (sb : AtExit loads.ended κ) → load.Post κ (v.table, (i * 16, tt)) b sb
     → (d : Descriptor) (sd : AtExit decodes.ended tt) → decode.Post tt (b, tt) d sd
-    → x ≡ Holds d
+    → x ≡ Some d
 slot_by_contract κ v i h w x sx px b sb pb d sd pd =
     held x (get_of v.table.now (i * 16) 16) b d (px ∙ shown v.table.now v.size i h w) pb pd
 
@@ -159,19 +158,19 @@ abbrev κ : Lfts 1
 κ = ([], tt)
 
 -- each contract allows an answer there, and no other
-allowed : slot_at.Post κ (lent, (16, (2, (1, tt)))) (Holds zero) (lent, (16, (2, (1, tt))))
+allowed : slot_at.Post κ (lent, (16, (2, (1, tt)))) (Some zero) (lent, (16, (2, (1, tt))))
 allowed = sym looked
 
-answered : (x : Slot) (sx : AtExit at.ended κ) → slot_at.Post κ (lent, (16, (2, (1, tt)))) x sx → x ≡ Holds zero
+answered : (x : Option Descriptor) (sx : AtExit at.ended κ) → slot_at.Post κ (lent, (16, (2, (1, tt)))) x sx → x ≡ Some zero
 answered x sx px =
     by_contract κ lent 16 2 1 (omega arith) whole x sx px
     (get_of zeros (16 + 1 * 16) 16) (lent, (16 + 1 * 16, tt)) refl
     zero (get_of zeros (16 + 1 * 16) 16, tt) refl
 
-allowed_slot : slot_reads.Post κ (window lent 2, (1, tt)) (Holds first) (window lent 2, (1, tt))
+allowed_slot : slot_reads.Post κ (window lent 2, (1, tt)) (Some first) (window lent 2, (1, tt))
 allowed_slot = sym (shown zeros 2 1 (omega arith) first_whole)
 
-answered_slot : (x : Slot) (sx : AtExit slot.ended κ) → slot_reads.Post κ (window lent 2, (1, tt)) x sx → x ≡ Holds first
+answered_slot : (x : Option Descriptor) (sx : AtExit slot.ended κ) → slot_reads.Post κ (window lent 2, (1, tt)) x sx → x ≡ Some first
 answered_slot x sx px =
     slot_by_contract κ (window lent 2) 1 (omega arith) first_whole x sx px
     (get_of zeros (1 * 16) 16) (lent, (1 * 16, tt)) refl
@@ -184,14 +183,14 @@ written : shown_of (drop 16 (ends.slot_put 16 (cursor.at 1 true) d1 zeros)) 2 1 
 written = as_the_ends_write zeros 16 2 (cursor.at 1 true) d1 ranged (omega arith) whole
 
 -- slot 2 is not below the size, and a third slot would end past the bytes
-none : shown_of (drop 16 zeros) 2 2 ≡ answer_of Nothing
+none : shown_of (drop 16 zeros) 2 2 ≡ answer_of None
 none = nothing_then zeros 16 2 2 (inl (omega arith))
 
-short : shown_of (drop 16 zeros) 3 2 ≡ answer_of Nothing
+short : shown_of (drop 16 zeros) 3 2 ≡ answer_of None
 unfolding zeros
 short = nothing_then zeros 16 3 2 (inr (omega (arith, length-replicate {A = ℕ} 48 0)))
 
-none_behind : shown_of (drop 16 zeros) 2 7 ≡ answer_of Nothing
+none_behind : shown_of (drop 16 zeros) 2 7 ≡ answer_of None
 none_behind = nothing_behind zeros 16 2 2 7 (omega arith) none
 
 why : (3 ≤ 2) ⊎ (length zeros < 16 + 2 * 16 + 16)

@@ -15,25 +15,20 @@ pub struct Window<'a> {
     pub size: u16,
 }
 
-// A slot that is there is shown as it stands, whatever its marks say.
-#[derive(Clone, Copy)]
-pub enum Slot {
-    Holds(Descriptor),
-    Nothing,
-}
-
-// The work, on a plain slice: the functions over a Window are thin.
-fn decoded(table: &[u8], size: u16, i: u16) -> Slot
+// The work, on a plain slice: the functions over a Window are thin. A slot that is there is shown as it stands, whatever its
+// marks say.
+#[tactic(auto, unfolding(crate::specs::Window::shown_of))]
+fn decoded(table: &[u8], size: u16, i: u16) -> Option<Descriptor>
     ensures { answer_of result ≡ shown_of table.now size i }
 {
     let at = (i as usize) * 16;
     if size <= i {
-        return Slot::Nothing;
+        return None;
     }
     if pick::ends_by(at, 16, table.len()) {
-        return Slot::Holds(Descriptor::decode(desc::load(table, at)));
+        return Some(Descriptor::decode(desc::load(table, at)));
     }
-    Slot::Nothing
+    None
 }
 
 impl<'a> Window<'a> {
@@ -44,7 +39,7 @@ impl<'a> Window<'a> {
     }
 
     // "a thin function decodes slot i"
-    pub fn slot(self, i: u16) -> Slot
+    pub fn slot(self, i: u16) -> Option<Descriptor>
         ensures { answer_of result ≡ shown_of self.entry.table.now self.entry.size i }
     {
         decoded(self.table, self.size, i)
@@ -52,18 +47,15 @@ impl<'a> Window<'a> {
 }
 
 // For every caller that keeps no window: its parameters are a plain slice and numbers.
-pub fn slot_of(table: &[u8], size: u16, i: u16) -> Slot
+pub fn slot_of(table: &[u8], size: u16, i: u16) -> Option<Descriptor>
     ensures { answer_of result ≡ shown_of table.now size i }
 {
     Window::new(table, size).slot(i)
 }
 
 // The same of a table that begins at a byte of a larger region; one that begins past the region's end has no bytes.
-pub fn slot_at(ring: &[u8], table: usize, size: u16, i: u16) -> Slot
+pub fn slot_at(ring: &[u8], table: usize, size: u16, i: u16) -> Option<Descriptor>
     ensures { answer_of result ≡ shown_of (drop table ring.now) size i }
 {
-    if table <= ring.len() {
-        return slot_of(&ring[table..], size, i);
-    }
-    slot_of(&ring[ring.len()..], size, i)
+    slot_of(ring.get(table..).unwrap_or_default(), size, i)
 }

@@ -8,10 +8,10 @@ mod openings;
 mod twice;
 
 fn main() {
-    chains::lone(desc::NEXT, b"head with NEXT");
-    chains::lone(0, b"head without NEXT");
-    chains::four();
-    ids::four();
+    tell::missing(chains::lone(desc::NEXT, b"head with NEXT"));
+    tell::missing(chains::lone(0, b"head without NEXT"));
+    tell::missing(chains::four());
+    tell::missing(ids::four());
     openings::sizes();
-    twice::completed();
+    tell::missing(twice::completed());
 }

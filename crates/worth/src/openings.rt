@@ -2,6 +2,7 @@
 // asked for its size and no more: programs run rings of at most 2,048 slots.
 ghost use Rattle.std.specs.Prelude.{◌≡◌, length, replicate};
 
+use base::RingError;
 use consumer::RingConsumer;
 use producer::RingProducer;
 
@@ -24,26 +25,15 @@ fn opened(size: u16) {
     let ring = zeroed::<524312>();
     let mut ids = [0u16; 32769];
     let mut counts = [0u16; 32769];
-    producer_at(size, &ring, &mut ids, &mut counts);
-    consumer_at(size, &ring, &mut counts);
+    let end = 16 * usize::from(size);
+    let p = RingProducer::new(size, 0, end, end + 4, &ring, &mut ids, &mut counts);
+    told(size, b"producer", p.and_then(|p| p.len()));
+    let c = RingConsumer::new(size, 0, end, end + 4, &ring, &mut counts);
+    told(size, b"consumer", c.and_then(|c| c.len()));
 }
 
-fn producer_at(size: u16, ring: &[u8], ids: &mut [u16], counts: &mut [u16]) {
-    let end = 16 * (size as usize);
-    tell::sized(size, b"producer");
-    match RingProducer::new(size, 0, end, end + 4, ring, ids, counts) {
-        producer::Opened::Ring(p) => tell::opened(p.len()),
-        producer::Opened::Refused(e) => tell::refused(e),
-    }
-    say::words(b"\n");
-}
-
-fn consumer_at(size: u16, ring: &[u8], counts: &mut [u16]) {
-    let end = 16 * (size as usize);
-    tell::sized(size, b"consumer");
-    match RingConsumer::new(size, 0, end, end + 4, ring, counts) {
-        consumer::Opened::Ring(c) => tell::opened(c.len()),
-        consumer::Opened::Refused(e) => tell::refused(e),
-    }
+fn told(size: u16, end: &[u8], asked: Result<u16, RingError>) {
+    tell::sized(size, end);
+    tell::opened(asked);
     say::words(b"\n");
 }

@@ -1,71 +1,54 @@
--- `undo::walk` meets its contract. The first loop's invariant: finishing from here gives the whole, and taking the marks away
--- gives the table at entry, which is the second loop's.
--- Its measure is what is left: no list costs more turns than `most`.
+-- `undo::walk` meets its contract. The loop's invariant: finishing from here gives the whole, and taking the marks away
+-- gives the table at entry.
 -- Assumes nothing.
-use Rattle.std.proofs.Common.{ℕ, ◌+◌, ◌-◌, List, get_or, drop, sym, refl, ap, ◌∙◌, ap₂, arith}
-use mathlib.Core.Bool.{not}
-use Rattle.undo.specs.Undo.{outcome}
-use Rattle.undo.proofs.Marks.{flip, unmarked, unmark_marked, unmark_more, unmark_none, walked, goes, walk_more, walk_stopped, walk_through}
+use Rattle.std.proofs.Common.{◌≡◌, ℕ, ◌+◌, ◌-◌, ◌<◌, ◌≤◌, true, false, List, length, get_or, take, drop, sym, refl, ap, ◌∙◌, ap₂, arith, take_all}
+use Rattle.undo.specs.Undo.{outcome, flipped}
+use Rattle.undo.proofs.Marks.{walked, stops, walk_more, walk_stopped, walk_through, flipped_none, flipped_marked}
 use Rattle.undo.proofs.Laws.{sum_walked}
 use Rattle.undo.proofs.walk.Goals as goal
 
-pub loop-id-init : goal.loop-id-init
-loop-id-init c = let a = c.args in (refl, (omega arith, (refl, unmark_none a.counts.now a.ids.now 0 (omega arith))))
+pub loop-k-init : goal.loop-k-init
+loop-k-init c = (omega arith, refl, flipped_none c.args.counts.now)
 
-pub loop-id-preserved : goal.loop-id-preserved
-loop-id-preserved c =
-    let h = c.loop-id in
+pub loop-k-preserved : goal.loop-k-preserved
+unfolding stops
+loop-k-preserved c =
+    let h = c.loop-k in
     let a = c.args in
-    let g = goes a.size h.counts h.left a.ids.now h.k _ c.stops.ensures (ap not c.loop-id-test.true) in
-    let id = c.at16-id.ensures in
-    let f = c.flip in
-    let v = c.at16-left in
-    let held = v.ensures ∙ ap (λ (i : ℕ). get_or h.counts i 0) id in
-    let marked = f.ensures ∙ ap (flip h.counts) id in (
-      f.auto.counts ∙ h.invariant.0,
-      (
-        omega arith,
-        (
-          ap₂ (λ (t : List ℕ) (x : ℕ). walked a.size a.most t (h.left - x) (drop (h.k + 1) a.ids.now)) marked held
-              ∙ walk_more a.size a.most h.counts h.left a.ids.now h.k g
-              ∙ h.invariant.1.1.0,
-          ap (λ (t : List ℕ). unmarked t a.ids.now (h.k + 1)) marked
-              ∙ unmark_marked h.counts a.ids.now h.k (omega (arith, v.type_inv, held))
-              ∙ h.invariant.1.1.1,
-        ),
-      ),
-    )
-
-pub loop-j-preserved : goal.loop-j-preserved
-loop-j-preserved c =
-    let h = c.loop-j in
-    let a = c.args in
-    let f = c.flip-in-loop-j in (
-      f.auto.counts ∙ h.invariant.0,
-      ap (λ (t : List ℕ). unmarked t a.ids.now (h.j - 1))
-          (f.ensures ∙ ap (flip h.counts) c.at16.ensures)
-          ∙ unmark_more h.counts a.ids.now h.j (omega arith)
+    let id = get_or a.ids.now h.k 0 in
+    let off : stops a.size h.counts h.left id ≡ false = sym c.stops.ensures ∙ c.if-stops.false in
+    let held = c.at-left.ensures ∙ ap (λ (i : ℕ). get_or h.counts i 0) c.from.ensures in
+    let there : h.k < length a.ids.now = omega arith in (
+      omega arith,
+      ap₂ (λ (t : List ℕ) (x : ℕ). walked a.size a.most t (h.left - x) (drop (h.k + 1) a.ids.now)) c.flip.ensures held
+          ∙ walk_more a.size a.most h.counts h.left a.ids.now h.k there off
           ∙ h.invariant.1,
+      ap (λ (t : List ℕ). flipped t (take (h.k + 1) a.ids.now)) c.flip.ensures
+          ∙ flipped_marked h.counts a.ids.now h.k there (omega (arith, c.at-left.type_inv, held))
+          ∙ h.invariant.2,
     )
 
-pub returns-then-k-ids : goal.returns-then-k-ids
-returns-then-k-ids c =
-    let h = c.loop-id in
+pub returns-then-stops : goal.returns-then-stops
+unfolding stops
+returns-then-stops c =
+    let h = c.loop-k in
     let a = c.args in
-    let g = c.loop-j in
+    let on : stops a.size h.counts h.left (get_or a.ids.now h.k 0) ≡ true = sym c.stops.ensures ∙ c.if-stops.true in
     ap₂ outcome
     (sym (sum_walked a.size a.most a.counts.now a.ids.now c.requires.0 c.requires.1.0 c.requires.1.1
-    ∙ sym h.invariant.1.1.0
-    ∙ walk_stopped a.size a.most h.counts h.left a.ids.now h.k _ c.stops.ensures (ap not c.loop-id-test.false) c.if-k-ids.true))
-    (sym (unmark_none g.counts a.ids.now g.j (omega arith)) ∙ g.invariant.1 ∙ h.invariant.1.1.1)
+    ∙ sym h.invariant.1
+    ∙ walk_stopped a.size a.most h.counts h.left a.ids.now h.k (omega arith) on))
+    (c.flip_each.ensures ∙ h.invariant.2)
 
 pub returns : goal.returns
 returns c =
-    let h = c.loop-id in
+    let h = c.loop-k in
     let a = c.args in
-    let g = c.loop-j in
+    let through : length a.ids.now ≤ h.k = omega arith in
     ap₂ outcome
     (sym (sum_walked a.size a.most a.counts.now a.ids.now c.requires.0 c.requires.1.0 c.requires.1.1
-    ∙ sym h.invariant.1.1.0
-    ∙ walk_through a.size a.most h.counts h.left a.ids.now h.k c.if-k-ids.false))
-    (sym (unmark_none g.counts a.ids.now g.j (omega arith)) ∙ g.invariant.1 ∙ h.invariant.1.1.1)
+    ∙ sym h.invariant.1
+    ∙ walk_through a.size a.most h.counts h.left a.ids.now h.k through))
+    (c.flip_each-2.ensures
+    ∙ ap (flipped h.counts) (sym (take_all h.k a.ids.now through))
+    ∙ h.invariant.2)

@@ -1,23 +1,13 @@
--- `undo::walk` meets its contract. The first loop's invariant: finishing from here gives the whole, and taking the marks away
--- gives the table at entry, which is the second loop's.
--- Its measure is what is left: no list costs more turns than `most`.
+-- `undo::walk` meets its contract. The loop's invariant: finishing from here gives the whole, and taking the marks away
+-- gives the table at entry. No list costs more turns than `most`: each takes from what is left.
 -- Assumes nothing.
-use Rattle.std.proofs.Common.{◌≡◌, ◌≤◌, length, drop}
-use Rattle.undo.proofs.Marks.{unmarked, walked}
+use Rattle.std.proofs.Common.{◌≡◌, ◌≤◌, take, drop}
+use Rattle.undo.specs.Undo.{flipped}
+use Rattle.undo.proofs.Marks.{walked}
 use Rattle.undo.proofs.walk.Given as goal
 
-abbrev pub invariant-loop-id : goal.invariant-loop-id
-invariant-loop-id l =
-    (length l.counts ≡ length l.initial.counts)
-    × ((l.left ≤ l.most)
-    × ((walked l.size l.most l.counts l.left (drop l.k l.ids) ≡ walked l.size l.most l.initial.counts l.most l.ids)
-    × (unmarked l.counts l.ids l.k ≡ l.initial.counts)))
-
-abbrev pub decreases-loop-id : goal.decreases-loop-id
-decreases-loop-id l = l.left
-
-abbrev pub invariant-loop-j : goal.invariant-loop-j
-invariant-loop-j l = (length l.counts ≡ length l.initial.counts) × (unmarked l.counts l.ids l.j ≡ unmarked l.initial.counts l.ids l.k)
-
-abbrev pub decreases-loop-j : goal.decreases-loop-j
-decreases-loop-j l = l.j
+abbrev pub invariant-loop-k : goal.invariant-loop-k
+invariant-loop-k l =
+    (l.left ≤ l.most)
+    × (walked l.size l.most l.counts l.left (drop l.k l.ids) ≡ walked l.size l.most l.initial.counts l.most l.ids)
+    × (flipped l.counts (take l.k l.ids) ≡ l.initial.counts)

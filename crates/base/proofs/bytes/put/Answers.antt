@@ -1,30 +1,26 @@
--- `base::bytes::put` meets its contract: the test is the definition's, and `copy` says what it wrote.
--- Assumes nothing.
-use Prim.Native.Nat.{◌+◌, ◌≤◌, ◌<◌}
+-- `base::bytes::put` meets its contract: the test is the definition's, and the part that is copied over is the stores of `sets`.
+use Prim.Native.Nat.{◌+◌, ◌-◌}
 use mathlib.Core.Path.{sym, ap, ◌∙◌}
 use mathlib.Core.List.{[]}
+use native.Mathlib.Omega.{arith}
 use borrow.Author.Tests.{leb-true, leb-false}
+use borrow.Rule.Slice.PartMut.{put_mid}
 use lib.ListN.{length}
 use Rattle.base.specs.Answer.{outcome, done}
-use Rattle.base.proofs.Runs.{put_fits, put_short}
+use Rattle.base.proofs.Runs.{put_fits, put_short, pasted}
 use Rattle.base.proofs.bytes.put.Goals as goal
-use Rattle.base.proofs.bytes.put.Goals.{Else-ends_by, Then-ends_by}
 
--- the test that was taken, and the one that was left
-fits : (c : Then-ends_by) → let a = c.args in a.at + length a.b.now ≤ length a.ring.now
-fits c =
-    let a = c.args in leb-true (a.at + length a.b.now) (length a.ring.now) (sym c.ends_by.ensures ∙ c.if-ends_by.true)
-
-short : (c : Else-ends_by) → let a = c.args in length a.ring.now < a.at + length a.b.now
-short c =
-    let a = c.args in leb-false (a.at + length a.b.now) (length a.ring.now) (sym c.ends_by.ensures ∙ c.if-ends_by.false)
-
-pub returns-then-ends_by : goal.returns-then-ends_by
-returns-then-ends_by c =
+pub returns-then-not-ends_by : goal.returns-then-not-ends_by
+returns-then-not-ends_by c =
     let a = c.args in
-    ap (outcome (done [])) c.copy.ensures ∙ sym (put_fits a.ring.now a.at a.b.now (fits (goal.at.returns-then-ends_by c).Then-ends_by))
+    sym (put_short a.ring.now a.at a.b.now
+    (leb-false (a.at + length a.b.now) (length a.ring.now) (sym c.ends_by.ensures ∙ c.if-not-ends_by.true)))
 
 pub returns : goal.returns
 returns c =
     let a = c.args in
-    sym (put_short a.ring.now a.at a.b.now (short (goal.at.returns c).Else-ends_by))
+    let fits = leb-true (a.at + length a.b.now) (length a.ring.now) (sym c.ends_by.ensures ∙ c.if-not-ends_by.false) in
+    ap (outcome (done []))
+    (ap (put_mid a.at (a.at + length a.b.now - a.at) a.ring.now) c.copy_from_slice.ensures.after
+    ∙ pasted a.b.now a.ring.now a.at (a.at + length a.b.now - a.at) (omega arith) fits)
+    ∙ sym (put_fits a.ring.now a.at a.b.now fits)

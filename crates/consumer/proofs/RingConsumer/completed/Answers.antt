@@ -1,4 +1,4 @@
--- `consumer::RingConsumer::completed` meets its contract: the count is at most the size, so the cursor moves by it.
+-- `consumer::RingConsumer::completed` meets its contract: a count that the chain has, so the cursor moves by it.
 -- Assumes nothing.
 use Prim.Native.Nat.{◌-◌}
 use mathlib.Core.Path.{◌≡◌, ap, ◌∙◌}
@@ -12,7 +12,7 @@ unfolding completed_of
 returns c =
     let a = c.args in
     let p = a.self in
-    let e : c.moved-used.result ≡ steps p.layout.size a.n p.used =
-    c.moved-used.ensures
+    let e : c.moved.result ≡ steps p.layout.size a.n p.used =
+    c.moved.ensures
     ∙ ap (λ (o : Outcome). o.cursor) (advance_ready p.layout.size a.n p.used (ready p.layout.size a.n p.used c.requires.1)) in
     λ i. record { layout = p.layout; avail = p.avail; used = e i; inflight = p.inflight - a.n; shadow = p.shadow }

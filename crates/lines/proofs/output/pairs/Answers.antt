@@ -1,11 +1,11 @@
--- `lines::output::pairs` meets its contract. The loop's invariant: to put the pairs from k on is to put them all.
--- Assumes nothing.
+-- `lines::output::pairs` meets its contract: one pair more is put.
 use native.Mathlib.Omega.{arith}
 use Prim.Native.Nat.{ℕ, ◌+◌}
-use mathlib.Core.Path.{◌≡◌, sym, ap, ap₂, ◌∙◌}
+use mathlib.Core.Path.{sym, ap, ap₂, ◌∙◌}
 use mathlib.Core.List.{[], ◌∷◌}
-use lib.ListN.{length, drop}
-use Rattle.text.specs.Text.{Written, written}
+use lib.ListN.{drop}
+use Rattle.text.specs.Text.{Written}
+use Rattle.text.specs.Line.{written_in}
 use Rattle.lines.specs.Text.{put_values, pairs_of}
 use Rattle.lines.proofs.Texts.{pairs_next, pairs_done}
 use Rattle.lines.proofs.output.pairs.Goals as goal
@@ -13,25 +13,18 @@ use Rattle.lines.proofs.output.pairs.Goals as goal
 pub loop-k-preserved : goal.loop-k-preserved
 loop-k-preserved c =
     let h = c.loop-k in
-    let a = c.args in
-    let addrs = a.addrs.now in
-    let lens = a.lens.now in (
-      omega arith,
-      c.value32-n.auto.out ∙ c.value-n.auto.out ∙ h.invariant.1,
-      ap (put_values (pairs_of (drop (h.k + 1) addrs) (drop (h.k + 1) lens)))
-          (c.value32-n.ensures
-          ∙ ap₂ (λ (x : ℕ) (w : Written). put_values (x ∷ []) w) c.at32.ensures c.value-n.ensures)
-          ∙ sym (pairs_next addrs lens h.k (written h.n h.out) (omega arith))
-          ∙ h.invariant.2,
-    )
+    let addrs = c.args.addrs.now in
+    let lens = c.args.lens.now in record {
+      lent = c.value-in-loop-k.ensures.lent ∙ c.value.ensures.lent ∙ h.invariant.lent;
+      text =
+          ap (put_values (pairs_of (drop (h.k + 1) addrs) (drop (h.k + 1) lens)))
+          (c.value-in-loop-k.ensures.text
+          ∙ ap₂ (λ (x : ℕ) (w : Written). put_values (x ∷ []) w) c.at.ensures c.value.ensures.text)
+          ∙ sym (pairs_next addrs lens h.k (written_in h.line) (omega arith))
+          ∙ h.invariant.text;
+    }
 
-pub returns : goal.returns
-returns c =
+pub returns-clause-text : goal.returns-clause-text
+returns-clause-text c =
     let h = c.loop-k in
-    let a = c.args in
-    let addrs = a.addrs.now in
-    let lens = drop h.k a.lens.now in
-    let e : length addrs ≡ h.k = omega arith in
-    sym (pairs_done addrs lens (written h.n h.out))
-    ∙ ap (λ (i : ℕ). put_values (pairs_of (drop i addrs) lens) (written h.n h.out)) e
-    ∙ h.invariant.2
+    sym (pairs_done c.args.addrs.now (drop h.k c.args.lens.now) h.k (written_in h.line) (omega arith)) ∙ h.invariant.text

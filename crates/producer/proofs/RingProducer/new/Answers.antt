@@ -1,31 +1,21 @@
--- `producer::RingProducer::new` meets its contract: by what the layout's test answered, and the tables' lengths.
+-- `producer::RingProducer::new` meets its contract: either table may be the short one.
 -- Assumes nothing.
-use mathlib.Core.Path.{sym, ap, ◌∙◌}
-use lib.ListN.{length}
-use Rattle.base.specs.Answer.{done}
-use Rattle.layout.specs.Layout.{layout, answer_of}
-use Rattle.producer.specs.Fresh.{fresh_of, record_values, opened}
-use Rattle.layout.proofs.Laws.{layout_refused, layout_taken}
-use Rattle.producer.proofs.Reset.{opening_refused, opening_short, opening_done}
+use native.Mathlib.Omega.{arith}
+use Rattle.std.proofs.lemmas.Grind.{common_steps}
+use Rattle.std.proofs.lemmas.List.{map-id}
+use Rattle.ring.specs.Tables.{up_to}
+use Rattle.producer.proofs.Reset.{opening_takes}
 use Rattle.producer.proofs.RingProducer.new.Goals as goal
-
-pub returns-in_default : goal.returns-in_default
-returns-in_default c =
-    let a = c.args in
-    sym (opening_refused a.size a.table a.driver a.device a.ring.now a.ids.now a.counts.now
-    (layout_refused (layout a.size a.table a.driver a.device) (length a.ring.now) c.in_default.field-0
-    (sym (ap answer_of c.in_default.is) ∙ c.new.ensures)))
 
 pub returns-then-ids-slots : goal.returns-then-ids-slots
 returns-then-ids-slots c =
     let a = c.args in
-    let t = layout_taken (layout a.size a.table a.driver a.device) (length a.ring.now) c.in-At.layout (sym (ap answer_of c.in-At.is) ∙ c.new.ensures) in
-    sym (opening_short a.size a.table a.driver a.device a.ring.now a.ids.now a.counts.now t.0 c.if-ids-slots.true)
+    let e = opening_takes a.size a.table a.driver a.device a.ring.now a.ids.now a.counts.now c.in_ok-layout.layout c.in_ok-layout.ensures in
+    grind (arith, common_steps)
 
 pub returns : goal.returns
 returns c =
     let a = c.args in
-    let t = layout_taken (layout a.size a.table a.driver a.device) (length a.ring.now) c.in-At.layout (sym (ap answer_of c.in-At.is) ∙ c.new.ensures) in
-    let f = c.fresh.ensures ∙ ap fresh_of t.1 in
-    (λ i. opened (done (record_values (f i))) (c.count_up.ensures i) (c.zero.ensures i))
-    ∙ sym (opening_done a.size a.table a.driver a.device a.ring.now a.ids.now a.counts.now t.0 c.if-ids-slots.false)
+    let e = opening_takes a.size a.table a.driver a.device a.ring.now a.ids.now a.counts.now c.in_ok-layout.layout c.in_ok-layout.ensures in
+    let counted = map-id (up_to a.size) in
+    grind (arith, common_steps)

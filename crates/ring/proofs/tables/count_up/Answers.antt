@@ -1,31 +1,35 @@
--- `ring::tables::count_up` meets its contract. The loop's invariant: the first k entries are filled.
--- Assumes nothing.
+-- `ring::tables::count_up` meets its contract: one word more is stored, and what is past the part stays.
+use Prim.Native.Nat.{◌<◌}
 use native.Mathlib.Omega.{arith}
-use Prim.Native.Nat.{ℕ}
 use native.Mathlib.Nat.{zero-add}
-use mathlib.Core.Path.{ap, ◌∙◌}
-use mathlib.Core.List.{List}
-use lib.ListN.{set}
-use lib.Seq.{sets, take_all}
+use mathlib.Core.Path.{◌≡◌, sym, ap, ◌∙◌}
+use mathlib.Core.List.{List, ◌++◌, map}
+use lib.ListN.{length, set, take, drop, length-take}
+use Rattle.std.proofs.lemmas.List.{get_or-map, length-map}
 use Rattle.ring.specs.Tables.{up_to}
-use Rattle.ring.proofs.Laws.{up_length, up_at, filled_more}
+use Rattle.ring.proofs.Laws.{up_length, up_at}
+use Rattle.ring.proofs.Fills.{filled_next, filled_all}
 use Rattle.ring.proofs.tables.count_up.Goals as goal
 
-pub loop-k-preserved : goal.loop-k-preserved
-loop-k-preserved c =
-    let h = c.loop-k in
-    let a = c.args in
-    let k = h.k in
-    let l = a.ids.now in (
-      omega arith,
-      c.set16.auto.s ∙ h.invariant.1,
-      c.set16.ensures
-          ∙ ap (λ (x : List ℕ). set x k k) h.invariant.2
-          ∙ filled_more (up_to a.n) l k k (omega (arith, up_length 0 a.n)) (up_at 0 a.n k (omega arith) ∙ zero-add k),
-    )
+pub loop-i-preserved : goal.loop-i-preserved
+loop-i-preserved g c =
+    let h = c.loop-i in
+    let of = g.W.Word.of in
+    let n = c.args.n in
+    let k = h.i in
+    let part = take c.min-k.result c.args.s.now in
+    let more : k < length (up_to n) = omega (arith, up_length 0 n, length-take c.min-k.result c.args.s.now) in
+    let there : k < length (map of (up_to n)) = omega (arith, length-map (up_to n) of) in
+    ap (λ (m : List _). set m k c.from-in-loop-i.result) h.invariant
+    ∙ filled_next (map of (up_to n)) part k (of 0) c.from-in-loop-i.result c.loop-i-test.true there
+    (get_or-map of (up_to n) k 0 (of 0) more
+    ∙ ap of (up_at 0 n k (omega (arith, up_length 0 n)) ∙ zero-add k)
+    ∙ sym (g.met.W.Word.from_same k c.from-in-loop-i.result c.from-in-loop-i.ensures))
 
 pub returns : goal.returns
-returns c =
-    let h = c.loop-k in
-    let a = c.args in
-    h.invariant.2 ∙ ap (sets a.ids.now 0) (take_all h.k (up_to a.n) (omega (arith, up_length 0 a.n)))
+returns g c =
+    let h = c.loop-i in
+    let vs = map g.W.Word.of (up_to c.args.n) in
+    let there : length vs ≡ c.args.n = length-map (up_to c.args.n) g.W.Word.of ∙ up_length 0 c.args.n in
+    ap (λ (m : List _). m ++ drop c.min-k.result c.args.s.now) h.invariant
+    ∙ filled_all vs c.args.s.now h.i c.min-k.result (omega (arith, length-take c.min-k.result c.args.s.now)) (omega arith)

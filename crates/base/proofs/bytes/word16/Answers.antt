@@ -1,9 +1,0 @@
--- `base::bytes::word16` meets its contract: the word of two bytes, written out.
--- Assumes nothing.
-use native.Mathlib.Omega.{arith}
-use Rattle.base.specs.Bytes.{word_at}
-use Rattle.base.proofs.bytes.word16.Goals as goal
-
-pub returns : goal.returns
-unfolding word_at
-returns c = omega arith

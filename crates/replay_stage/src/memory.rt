@@ -1,0 +1,55 @@
+// What a trace lends to the ring's two ends, and its checkpoint registers. The sizes are the trace format's.
+ghost use Rattle.std.specs.Prelude.{◌≡◌, take};
+
+use consumer::Checkpoint;
+use cursor::RingCursor;
+
+// A checkpoint register as a trace starts.
+pub const AT_START: Checkpoint = Checkpoint {
+    avail: RingCursor {
+        head: 0,
+        wrap: true,
+    },
+    used: RingCursor {
+        head: 0,
+        wrap: true,
+    },
+    inflight: 0,
+};
+
+// Entries of which the ends are lent the first so many: all that there are, where the number is larger.
+#[derive(Drop)]
+pub struct Store<T, const N: usize> {
+    pub all: [T; N],
+    pub lent: usize,
+}
+
+impl<T, const N: usize> Store<T, N> {
+    pub fn lent(&self) -> &[T]
+        ensures { result.now ≡ take self.now.lent self.now.all }
+    {
+        self.all.split_at(self.lent.min(N)).0
+    }
+
+    pub fn lent_mut(&mut self) -> &mut [T]
+        ensures { result.now ≡ take self.old.lent self.old.all }
+    {
+        let n = self.lent.min(N);
+        self.all.split_at_mut(n).0
+    }
+}
+
+#[derive(Drop)]
+pub struct Memory {
+    pub region: Store<u8, 65536>,
+    // How long the trace's region is.
+    pub length: usize,
+    pub ids: Store<u16, 2048>,
+    // The producer's counts, and the consumer's.
+    pub taken: Store<u16, 2048>,
+    pub held: Store<u16, 2048>,
+    // The poll outputs.
+    pub addrs: Store<u64, 2048>,
+    pub lens: Store<u32, 2048>,
+    pub registers: [Checkpoint; 256],
+}

@@ -1,0 +1,51 @@
+// A trace's header: what the trace lends is set out, and both ends are opened over it.
+use crate::{Ends, Trace};
+use base::RingError;
+use consumer::RingConsumer;
+use format::header;
+use layout::Layout;
+use lines::{answer, output};
+use producer::RingProducer;
+use replay_stage::memory::Memory;
+use replay_stage::{hash, stage};
+use text::Line;
+
+// The trace whose header stands at the start of s, and how many bytes that takes; none where it is bad. A refused opening
+// has a line, and a trace whose records are passed over.
+pub fn header(s: &[u8], memory: &mut Memory, line: &mut Line<'_>) -> Option<(Trace, usize)> {
+    let header = header::read(s)?;
+    stage::set_out(memory, s, header.region);
+    let ends = open(header::geometry(header::OP, s), memory);
+    let hash = ends.map_or(0, |e| hash::of(e.producer, e.consumer, memory));
+    output::answer(line, header::OP, ends.and(answer::done()));
+    output::last(line, hash.into());
+    let trace = Trace {
+        ends: ends.ok(),
+        every: header.every,
+        records: header.records,
+        done: 0,
+    };
+    Some((trace, header::LENGTH))
+}
+
+// The producer first: its refusal is the header's.
+fn open(l: Layout, memory: &mut Memory) -> Result<Ends, RingError> {
+    let producer = RingProducer::new(
+        l.size,
+        l.table,
+        l.driver,
+        l.device,
+        memory.region.lent(),
+        memory.ids.lent_mut(),
+        memory.taken.lent_mut(),
+    )?;
+    let consumer = RingConsumer::new(
+        l.size,
+        l.table,
+        l.driver,
+        l.device,
+        memory.region.lent(),
+        memory.held.lent_mut(),
+    )?;
+    Ok(Ends { producer, consumer })
+}
