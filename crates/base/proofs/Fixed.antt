@@ -18,6 +18,7 @@ use Rattle.base.proofs.pick.set.Reads as set
 use Rattle.base.proofs.bytes.U16Word.read.Reads as word16
 use Rattle.base.proofs.bytes.U32Word.read.Reads as word32
 use Rattle.base.proofs.bytes.U64Word.read.Reads as word64
+use Rattle.base.proofs.bytes.zeros.Reads as zeros
 use Rattle.base.proofs.bytes.get.Reads as get
 use Rattle.base.proofs.bytes.put.Reads as put
 use Rattle.base.proofs.bytes.zero.Reads as zero
@@ -47,6 +48,9 @@ pub zero_fixed : Determined zero.Post (λ r s. both r s.0.now)
 zero_fixed = by_answer _ _ seen seen_same _ (λ κ a r s p. p)
 
 -- for every number of bytes
+pub zeros_fixed : (n : ℕ) (h : Fits w64 n) → Determined (zeros.Post n h) (λ r s. r)
+zeros_fixed n h = by_equation _ _ _ (λ κ a r s p. p.0)
+
 pub get_fixed : (n : ℕ) (h : Fits w64 n) → Determined (get.Post n h) (λ r s. r)
 get_fixed n h = by_equation _ _ _ (λ κ a r s p. p)
 

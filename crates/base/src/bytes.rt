@@ -1,5 +1,5 @@
 // Little-endian words, and runs of bytes in a lent slice.
-ghost use Rattle.std.specs.Prelude.{ℕ, ◌≡◌, drop, replicate};
+ghost use Rattle.std.specs.Prelude.{ℕ, ◌≡◌, drop, length, replicate};
 ghost use Rattle.base.specs.Answer.{outcome, answer_of};
 ghost use Rattle.base.specs.Bytes.{word_at, put_of, get_of};
 
@@ -19,6 +19,7 @@ pub trait Word: Copy + From<u16> {
     ghost from_same: { (n : ℕ) (x : Self) → Self.from_gives n x → x ≡ of n };
 }
 
+// Each width reads its own bytes one by one: past the end there are zeros, which no array taken from a slice has.
 impl Word for u16 {
     ghost width = { 2 };
 
@@ -77,6 +78,14 @@ fn from(s: &[u8], at: usize) -> &[u8]
     ensures { result.now ≡ drop at s.now }
 {
     s.get(at..).unwrap_or_default()
+}
+
+// N zeros. Their number is proved once, of every N: a proof that sees a very long array written out counts it.
+pub fn zeros<const N: usize>() -> [u8; N]
+    ensures value { result ≡ replicate N 0 }
+    ensures len { N ≡ length result }
+{
+    [0; N]
 }
 
 // The N bytes from place `at` on; zeros where they are not whole in the slice.

@@ -35,7 +35,8 @@ pub fn writables<T>(s: &[T], readable: usize) -> &[T]
     &s[s.len()..]
 }
 
-// May slices of these lengths, with this count, be no chain? For a caller that has the lengths alone.
+// May slices of these lengths, with this count, be no chain? Of numbers, and not of a chain: `lent` asks it of lengths that no
+// slice has.
 pub fn is_bad(addrs: usize, lens: usize, readable: usize) -> bool
     ensures { result ≡ bad_slices addrs lens readable }
 {

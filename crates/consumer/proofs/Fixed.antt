@@ -24,7 +24,7 @@ use Rattle.consumer.proofs.RingConsumer.enable_avail_notifications_desc.Reads as
 use Rattle.consumer.proofs.RingConsumer.enable_avail_notifications_for_next.Reads as enable_avail_notifications_for_next
 use Rattle.consumer.proofs.RingConsumer.reset.Reads as reset
 
-pub new_fixed : Determined new.Post (λ r s. both r s.1.1.1.1.1.0.now)
+pub new_fixed : Determined new.Post (λ r s. both r s.1.1.0.now)
 new_fixed = by_answer _ _ opened_seen opened_all _ (λ κ a r s p. p)
 
 pub poll_available_fixed : Determined poll_available.Post (λ r s. both r (both s.1.1.0.now (both s.1.1.1.0.now s.1.1.1.1.0.now)))

@@ -72,19 +72,13 @@ fn fresh(layout: Layout) -> RingConsumer
 // lent to each call anew, as the rules ask, so no struct keeps them together.
 impl RingConsumer {
     // Opening: the counts' first entries are filled, and no byte of the ring is touched.
-    #[tactic(auto, unfolding(crate::specs::Fresh::open_of))]
-    pub fn new(
-        size: u16,
-        table: usize,
-        driver: usize,
-        device: usize,
-        ring: &[u8],
-        counts: &mut [u16],
-    ) -> Result<RingConsumer, RingError>
+    #[tactic(auto, unfolding(crate::specs::Fresh::open_of, layout::specs::Layout::open_refusal))]
+    pub fn new(layout: Layout, ring: &[u8], counts: &mut [u16]) -> Result<RingConsumer, RingError>
         ensures { opened (opened_answer result) counts.new
-            ≡ open_of size table driver device ring.now counts.old }
+            ≡ open_of layout.size layout.table layout.driver layout.device ring.now counts.old }
     {
-        let layout = Layout::new(size, table, driver, device, ring.len())?;
+        layout.check(ring.len())?;
+        let size = layout.size;
         if counts.len() < usize::from(size) {
             return Err(RingError::BadLent);
         }
@@ -211,6 +205,7 @@ impl RingConsumer {
         (self.back(cp), Ok(()))
     }
 
+    // What is asked of the record. Both ends have these, each over its own record and definitions (see `turned`).
     pub fn num_free(self) -> Result<u16, RingError>
         ensures { count_answer result ≡ ask_of (bad_record self) ((self.layout.size - self.inflight) ∷ []) }
     {
@@ -271,6 +266,7 @@ impl RingConsumer {
         self.turned(ring, event::ENABLE)
     }
 
+    // Armed at a slot of a round; alike in both ends, as `turned` is.
     #[tactic(auto, unfolding(crate::specs::Notices::notice_of))]
     pub fn enable_avail_notifications_desc(
         self,

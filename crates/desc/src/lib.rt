@@ -148,6 +148,7 @@ impl Descriptor {
         ]
     }
 
+    // By constant places of the array, and not by `u64::read`: no place is tested while a ring is polled.
     #[tactic(auto, unfolding(crate::specs::Desc::decode_of, base::specs::Bytes::word_at))]
     pub fn decode(b: [u8; 16]) -> Descriptor
         ensures { result ≡ decode_of b }

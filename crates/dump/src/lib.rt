@@ -60,22 +60,23 @@ pub fn read_header(input: &[u8]) -> Result<Header, BadHeader>
     Ok(Header { size, table })
 }
 
-#[tactic(auto, unfolding(crate::specs::Names::names_of))]
+#[tactic(auto, using(crate::proofs::Masks::named), unfolding(crate::proofs::Masks::masks_of))]
 pub fn flag_names(flags: u16) -> Names
     ensures { result ≡ names_of flags }
 {
     Names {
-        next: flags / desc::NEXT % 2 == 1,
-        write: flags / desc::WRITE % 2 == 1,
-        indirect: flags / desc::INDIRECT % 2 == 1,
-        avail: flags / desc::AVAIL % 2 == 1,
-        used: flags / desc::USED % 2 == 1,
-        unnamed: flags / 8 % 16 * 8 + flags / 256 % 128 * 256,
+        next: flags & desc::NEXT != 0,
+        write: flags & desc::WRITE != 0,
+        indirect: flags & desc::INDIRECT != 0,
+        avail: flags & desc::AVAIL != 0,
+        used: flags & desc::USED != 0,
+        unnamed: flags & !(desc::NEXT | desc::WRITE | desc::INDIRECT | desc::AVAIL | desc::USED),
     }
 }
 
 // Line k of what is shown of a dump, at the start of a lent buffer: how long it is, where there is such a line. None has
-// more than 160 bytes (`line_short` in proofs/Short.antt); one that does not fit is told by `text::LOST`.
+// more than 160 bytes (`line_short` in proofs/Short.antt); one that does not fit is told by `text::LOST`. (`Some(LOST)` and no
+// answer of its own: `puts` has it as a place, and the contract tells that place.)
 #[tactic(auto, unfolding(crate::specs::Lines::line_by))]
 pub fn line_of(input: &[u8], k: u16, out: &mut [u8]) -> Option<usize>
     ensures { both result out.new ≡ told (puts (line_of input.now k) (written 0 out.old)) }

@@ -86,6 +86,7 @@ impl EventSuppression {
         [o0, o1, f0, f1]
     }
 
+    // By constant places of the array, as a descriptor is.
     #[tactic(auto, unfolding(crate::specs::Event::decode_of, base::specs::Bytes::word_at))]
     pub fn decode(b: [u8; 4]) -> EventSuppression
         ensures { result ≡ decode_of b }

@@ -56,10 +56,14 @@ impl Device {
     fn start(&mut self, r: Record) {
         self.ring = [0; 264];
         self.twin = [0; 264];
-        let size = u16::from(r.slot);
         let driver = 16 * usize::from(r.slot);
-        let c = RingConsumer::new(size, 0, driver, driver + 4, &self.ring, &mut self.counts);
-        match c {
+        let layout = Layout {
+            table: 0,
+            driver,
+            device: driver + 4,
+            size: r.slot.into(),
+        };
+        match RingConsumer::new(layout, &self.ring, &mut self.counts) {
             Ok(c) => {
                 self.end = c;
                 tell::opened(&r.bytes[..3], c.len());

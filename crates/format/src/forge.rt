@@ -1,4 +1,5 @@
-// Fields that a trace forges, by their numbers in the format. A value is taken modulo its field's width.
+// Fields that a trace forges, by their numbers in the format. A value is taken modulo its field's width. A forged field's
+// number and its value (`field, v`) are the record's own two fields, as docs/TRACE.md has them.
 ghost use Rattle.std.specs.Prelude.{◌≡◌};
 ghost use Rattle.format.specs.Forge as forged;
 

@@ -1,6 +1,6 @@
 // What makes a record bad, whatever the ring's state: its op, its counts, its flags and the places that it names.
-// A record that is passed over is held to the same. An op stays the number that docs/TRACE.md names it by: the arms here
-// are rows of that page's table.
+// A record that is passed over is held to the same. An op is the format's byte: an enum of some sixty names would be no
+// plainer than docs/TRACE.md's table, which these arms are.
 ghost use Rattle.std.specs.Prelude.{◌≡◌, ltb, get_or};
 ghost use Rattle.base.specs.Bytes.{word_at};
 ghost use Rattle.format.specs.Form.{row_of, bad_flags, bad_counts, bad_places, is_past, list_bytes, length_of};

@@ -59,9 +59,9 @@ abbrev producer_new_lem : ProducerNew
 producer_new_lem =
     record {
       lifetimes = ([], ([], ([], tt)));
-      entry = (2, (0, (32, (36, (lent (zeros 40), (lent_mut (zeros 2), (lent_mut (zeros 2), tt)))))));
+      entry = (geometry_of 2, (lent (zeros 40), (lent_mut (zeros 2), (lent_mut (zeros 2), tt))));
       result = Ok (made.fresh_of (geometry_of 2));
-      exit = (2, (0, (32, (36, (lent (zeros 40), (lent_mut opens_producer.ids, (lent_mut opens_producer.counts, tt)))))));
+      exit = (geometry_of 2, (lent (zeros 40), (lent_mut opens_producer.ids, (lent_mut opens_producer.counts, tt))));
       meets = producer_meets;
     }
 
@@ -80,9 +80,9 @@ abbrev consumer_new_lem : ConsumerNew
 consumer_new_lem =
     record {
       lifetimes = ([], ([], tt));
-      entry = (2, (0, (32, (36, (lent found, (lent_mut (zeros 2), tt))))));
+      entry = (geometry_of 2, (lent found, (lent_mut (zeros 2), tt)));
       result = Ok (taken.fresh_of (geometry_of 2));
-      exit = (2, (0, (32, (36, (lent found, (lent_mut opens_consumer.counts, tt))))));
+      exit = (geometry_of 2, (lent found, (lent_mut opens_consumer.counts, tt)));
       meets = consumer_meets;
     }
 

@@ -40,7 +40,11 @@ outside l bytes =
 abbrev pub values_of : Layout → List ℕ
 values_of l = l.size ∷ l.table ∷ l.driver ∷ l.device ∷ []
 
--- refusal 6 at opening, over so many lent bytes: "on refusal gives the number alone"
+-- refusal 6 at opening, over so many lent bytes; 0 where the geometry is taken
+unfoldable pub open_refusal : Layout → ℕ → ℕ
+open_refusal l bytes = cond (bad_layout l || outside l bytes) 6 0
+
+-- the same of a geometry's four numbers: "on refusal gives the number alone"
 unfoldable pub open_of : Layout → ℕ → Answer
 open_of l bytes = cond (bad_layout l || outside l bytes) (refused 6) (done (values_of l))
 

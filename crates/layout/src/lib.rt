@@ -4,7 +4,8 @@
 #![tactic(auto, unfolding(crate::specs::Layout::apart, crate::specs::Layout::bad_layout, crate::specs::Layout::outside))]
 
 ghost use Rattle.std.specs.Prelude.{◌≡◌};
-ghost use Rattle.layout.specs.Layout.{layout, apart, bad_layout, outside, answer_of, open_of};
+ghost use Rattle.base.specs.Answer.{refusal};
+ghost use Rattle.layout.specs.Layout.{layout, apart, bad_layout, outside, answer_of, open_refusal, open_of};
 
 use base::{RingError, pick};
 
@@ -25,8 +26,8 @@ fn are_apart(a: usize, n: usize, b: usize, m: usize) -> bool
 }
 
 impl Layout {
-    // The test at opening, over so many lent bytes.
-    #[tactic(auto, unfolding(crate::specs::Layout::open_of))]
+    // A layout of these numbers that passes the test at opening.
+    #[tactic(auto, unfolding(crate::specs::Layout::open_refusal, crate::specs::Layout::open_of))]
     pub fn new(
         size: u16,
         table: usize,
@@ -42,10 +43,19 @@ impl Layout {
             device,
             size,
         };
-        if l.is_bad() || l.is_outside(bytes) {
+        l.check(bytes)?;
+        Ok(l)
+    }
+
+    // The test at opening, over so many lent bytes.
+    #[tactic(auto, unfolding(crate::specs::Layout::open_refusal))]
+    pub fn check(self, bytes: usize) -> Result<(), RingError>
+        ensures { refusal result ≡ open_refusal self bytes }
+    {
+        if self.is_bad() || self.is_outside(bytes) {
             return Err(RingError::InvalidLayout);
         }
-        Ok(l)
+        Ok(())
     }
 
     // A stored geometry that no opening would have taken, whatever it was lent.

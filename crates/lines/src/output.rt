@@ -29,7 +29,7 @@ pub fn last(line: &mut Line<'_>, x: u64)
     line.number(x, b'\n');
 }
 
-// A line's start: the op and its status.
+// A line's start: the op and its status, which stays the line's own number: 0, or a refusal's.
 #[tactic(auto, unfolding(crate::specs::Text::put_values))]
 pub fn start(line: &mut Line<'_>, op: u8, status: u8)
     ensures lent { line.new.out.ghost_name ≡ line.old.out.ghost_name }

@@ -24,7 +24,7 @@ use Rattle.queue.specs.Machine.{world_of, history_of, FairCalls, number_of, OfKi
 use Rattle.queue.specs.Demand.{Premise}
 use Rattle.queue.proofs.Model.{model, start, AllOk}
 use Rattle.queue.proofs.Machine.{Matches, demanded}
-use Rattle.packed.specs.Meets.{sixth, seventh}
+use Rattle.packed.specs.Meets.{third, fourth}
 use Rattle.packed.specs.Calls.{Call, Given, request_of}
 use Rattle.packed.specs.Machine.{World, ProducerLeaves, ConsumerLeaves, packed, lendings, place_of, kept_of, FairCall, says_of}
 use Rattle.packed.specs.Machine.{after_producer, after_consumer, call_answer, call_entry, call_exit, call_says, leaves, machine_of}
@@ -102,9 +102,9 @@ opening_of o =
       geometry = producer_geometry o.producer_new;
       ring = o.ring;
       zeroed = o.zeroed;
-      ids = (sixth o.producer_new.entry).now;
-      counts = (seventh o.producer_new.entry).now;
-      held_counts = (sixth o.consumer_new.entry).now;
+      ids = (third o.producer_new.entry).now;
+      counts = (fourth o.producer_new.entry).now;
+      held_counts = (third o.consumer_new.entry).now;
       producer_finds = producer_finds o.producer_new;
       consumer_finds = consumer_finds o.consumer_new;
       producer_length = o.producer_length;
@@ -113,7 +113,7 @@ opening_of o =
           ap (λ (x : made_fresh.Open). x.answer.number) (sym o.producer_new.meets)
           ∙ ap (λ (x : Result RingProducer RingError). (made_fresh.opened_answer x).number) o.producer_opened;
       consumer =
-          ap (λ (g : Layout). (packed.consumer_new g (consumer_finds o.consumer_new) (sixth o.consumer_new.entry).now).answer.number) (sym o.one_geometry)
+          ap (λ (g : Layout). (packed.consumer_new g (consumer_finds o.consumer_new) (third o.consumer_new.entry).now).answer.number) (sym o.one_geometry)
           ∙ ap (λ (x : taken_fresh.Open). x.answer.number) (sym o.consumer_new.meets)
           ∙ ap (λ (x : Result RingConsumer RingError). (taken_fresh.opened_answer x).number) o.consumer_opened;
     }
@@ -131,19 +131,19 @@ module _ (o : RealOpening) where
       let e : o.consumer_new.result ≡ Ok (taken_fresh.fresh_of (producer_geometry o.producer_new)) =
       taken_same.opened_same o.consumer_new.result (Ok (taken_fresh.fresh_of (producer_geometry o.producer_new)))
       (ap (λ (x : taken_fresh.Open). x.answer) o.consumer_new.meets
-      ∙ ap (λ (g : Layout). (packed.consumer_new g (consumer_finds o.consumer_new) (sixth o.consumer_new.entry).now).answer) o.one_geometry
+      ∙ ap (λ (g : Layout). (packed.consumer_new g (consumer_finds o.consumer_new) (third o.consumer_new.entry).now).answer) o.one_geometry
       ∙ taken_answer (opening_of o)) in
       cc (e, o.consumer_opened)
 
-  held_is : (packed.consumer_new (producer_geometry o.producer_new) (consumer_finds o.consumer_new) (sixth o.consumer_new.entry).now).side.counts
-      ≡ (sixth o.consumer_new.exit).now
+  held_is : (packed.consumer_new (producer_geometry o.producer_new) (consumer_finds o.consumer_new) (third o.consumer_new.entry).now).side.counts
+      ≡ (third o.consumer_new.exit).now
   held_is =
-      ap (λ (g : Layout). (packed.consumer_new g (consumer_finds o.consumer_new) (sixth o.consumer_new.entry).now).side.counts) (sym o.one_geometry)
+      ap (λ (g : Layout). (packed.consumer_new g (consumer_finds o.consumer_new) (third o.consumer_new.entry).now).side.counts) (sym o.one_geometry)
       ∙ ap (λ (x : taken_fresh.Open). x.counts) (sym o.consumer_new.meets)
 
-  tables_are : (packed.producer_new (producer_geometry o.producer_new) (producer_finds o.producer_new) (sixth o.producer_new.entry).now
-      (seventh o.producer_new.entry).now).side
-      ≡ record { end = o.producer; ids = (sixth o.producer_new.exit).now; counts = (seventh o.producer_new.exit).now }
+  tables_are : (packed.producer_new (producer_geometry o.producer_new) (producer_finds o.producer_new) (third o.producer_new.entry).now
+      (fourth o.producer_new.entry).now).side
+      ≡ record { end = o.producer; ids = (third o.producer_new.exit).now; counts = (fourth o.producer_new.exit).now }
   tables_are =
       let m = sym o.producer_new.meets in
       λ i. record { end = producer_is i; ids = (m i).ids; counts = (m i).counts }

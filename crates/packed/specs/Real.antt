@@ -4,7 +4,6 @@
 use Rattle.std.specs.Prelude.{ℕ, ◌+◌, ◌*◌, ◌<◌, ◌≡◌, List, [], ◌∷◌, length, get_or, Ok}
 use Rattle.base.specs.Answer.{Answer}
 use Rattle.layout.specs.declared.Layout.{Layout}
-use Rattle.layout.specs.Layout.{layout}
 use Rattle.producer.specs.declared.RingProducer.{RingProducer}
 use Rattle.producer.specs.Fresh as made_fresh
 use Rattle.producer.proofs.RingProducer.new.Reads as producer_new_contract
@@ -15,7 +14,7 @@ use Rattle.consumer.proofs.RingConsumer.new.Reads as consumer_new_contract
 use Rattle.queue.specs.Promise.{plain}
 use Rattle.queue.specs.Machine.{Machine, world_of, history_of}
 use Rattle.queue.specs.Demand.{Premise, Demand3}
-use Rattle.packed.specs.Meets.{Meets, first, second, third, fourth, fifth, sixth, seventh}
+use Rattle.packed.specs.Meets.{Meets, first, second, third, fourth}
 use Rattle.packed.specs.Calls.{Lent, LentProducer, LentConsumer, Call, Given, TypedCall, request_of}
 use Rattle.packed.specs.Calls.{by_producer, by_consumer, to_producer, to_consumer, new_producer, new_consumer, own, foreign}
 use Rattle.packed.specs.Machine.{World, Lendings, lendings, addrs_lent, lens_lent, place_of, kept_of, FairCall, says_of}
@@ -35,16 +34,16 @@ ConsumerNew = Meets consumer_new_contract.Post
 
 -- the geometry, the bytes and the tables that it was given, and the tables at exit
 abbrev pub producer_geometry : ProducerNew → Layout
-producer_geometry m = layout (first m.entry) (second m.entry) (third m.entry) (fourth m.entry)
+producer_geometry m = first m.entry
 
 abbrev pub producer_finds : ProducerNew → List ℕ
-producer_finds m = (fifth m.entry).now
+producer_finds m = (second m.entry).now
 
 abbrev pub consumer_geometry : ConsumerNew → Layout
-consumer_geometry m = layout (first m.entry) (second m.entry) (third m.entry) (fourth m.entry)
+consumer_geometry m = first m.entry
 
 abbrev pub consumer_finds : ConsumerNew → List ℕ
-consumer_finds m = (fifth m.entry).now
+consumer_finds m = (second m.entry).now
 
 -- a call: one of an end given its own; one given what is not (it says which things are); an opening in the middle of a run
 pub data RealCall : Type 0 where
@@ -74,8 +73,8 @@ enters_in v (consumers x) = after_consumer v (consumer.side_lent v.consumer x) (
 enters_in v (to_another_producer l b x) = after_producer v (producer.side_lent v.producer x) (producer.bytes_lent v.ring x)
 enters_in v (to_another_consumer l b x) = after_consumer v (consumer.side_lent v.consumer x) (consumer.bytes_lent v.ring x)
 enters_in v (opens_producer i k b m) =
-    after_producer v (record { end = v.producer.end; ids = (sixth m.entry).now; counts = (seventh m.entry).now }) (producer_finds m)
-enters_in v (opens_consumer k b m) = after_consumer v (record { end = v.consumer.end; counts = (sixth m.entry).now }) (consumer_finds m)
+    after_producer v (record { end = v.producer.end; ids = (third m.entry).now; counts = (fourth m.entry).now }) (producer_finds m)
+enters_in v (opens_consumer k b m) = after_consumer v (record { end = v.consumer.end; counts = (third m.entry).now }) (consumer_finds m)
 
 -- its answer
 abbrev pub real_answer : RealCall → Answer
@@ -93,8 +92,8 @@ exits_in v (consumers x) = after_consumer v (consumer.side_left v.consumer x) (c
 exits_in v (to_another_producer l b x) = after_producer v (producer.side_left v.producer x) (producer.bytes_left v.ring x)
 exits_in v (to_another_consumer l b x) = after_consumer v (consumer.side_left v.consumer x) (consumer.bytes_left v.ring x)
 exits_in v (opens_producer i k b m) =
-    after_producer v (record { end = v.producer.end; ids = (sixth m.exit).now; counts = (seventh m.exit).now }) (producer_finds m)
-exits_in v (opens_consumer k b m) = after_consumer v (record { end = v.consumer.end; counts = (sixth m.exit).now }) (consumer_finds m)
+    after_producer v (record { end = v.producer.end; ids = (third m.exit).now; counts = (fourth m.exit).now }) (producer_finds m)
+exits_in v (opens_consumer k b m) = after_consumer v (record { end = v.consumer.end; counts = (third m.exit).now }) (consumer_finds m)
 
 -- a poll's outputs, lent and at exit
 abbrev pub addrs_in : RealCall → List ℕ
@@ -175,8 +174,8 @@ opened_size o = (producer_geometry o.producer_new).size
 abbrev pub real_opened : RealOpening → World
 real_opened o =
     record {
-      producer = record { end = o.producer; ids = (sixth o.producer_new.exit).now; counts = (seventh o.producer_new.exit).now };
-      consumer = record { end = o.consumer; counts = (sixth o.consumer_new.exit).now };
+      producer = record { end = o.producer; ids = (third o.producer_new.exit).now; counts = (fourth o.producer_new.exit).now };
+      consumer = record { end = o.consumer; counts = (third o.consumer_new.exit).now };
       ring = o.ring;
     }
 

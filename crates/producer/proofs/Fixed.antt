@@ -29,7 +29,7 @@ use Rattle.producer.proofs.RingProducer.enable_used_notifications_desc.Reads as 
 use Rattle.producer.proofs.RingProducer.enable_used_notifications_for_next.Reads as enable_used_notifications_for_next
 use Rattle.producer.proofs.RingProducer.reset.Reads as reset
 
-pub new_fixed : Determined new.Post (λ r s. both r (both s.1.1.1.1.1.0.now s.1.1.1.1.1.1.0.now))
+pub new_fixed : Determined new.Post (λ r s. both r (both s.1.1.0.now s.1.1.1.0.now))
 new_fixed = by_answer _ _ opened_seen opened_all _ (λ κ a r s p. p)
 
 pub submit_one_fixed : Determined submit_one.Post (λ r s. both r (both s.1.0.now (both none s.1.1.1.0.now)))

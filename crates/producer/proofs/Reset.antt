@@ -1,18 +1,14 @@
 -- The ways an opening and a reset end.
 -- Assumes nothing.
 use Prim.Native.Nat.{ℕ}
-use mathlib.Core.Path.{◌≡◌, sym, ap, ◌∙◌}
+use mathlib.Core.Path.{◌≡◌}
 use mathlib.Core.List.{List, []}
-use mathlib.Core.Bool.{true, false, cond, ◌||◌}
+use mathlib.Core.Bool.{true, false, ◌||◌}
 use lib.Dec.{ltb}
 use lib.ListN.{length}
 use borrow.Author.Tests.{eq-eqb, ne_eqb}
-use Rattle.base.specs.declared.RingError.{RingError}
-use Rattle.base.specs.Refusals.{number_of}
-use Rattle.base.specs.Answer.{Answer, done, refused}
-use Rattle.layout.specs.Layout.{layout, values_of, bad_layout, outside}
-use Rattle.layout.specs.Layout as layouts
-use Rattle.layout.proofs.Laws.{refuses, layout_refused, layout_taken}
+use Rattle.base.specs.Answer.{done, refused}
+use Rattle.layout.specs.Layout.{layout, bad_layout, outside}
 use Rattle.layout.specs.declared.Layout.{Layout}
 use Rattle.producer.specs.declared.RingProducer.{RingProducer}
 use Rattle.producer.specs.Record.{lent_refusal}
@@ -61,21 +57,3 @@ module _ (size table driver device : ℕ) (ring ids counts : List ℕ) where
       ≡ opened (done (record_values (fresh_of at))) (sets ids 0 (up_to size)) (sets counts 0 (replicate size 0))
   unfolding open_of
   opening_done h t = simp (h, t)
-
-  -- by the answer of the layout's test
-  pub opening_refuses :
-      (e : RingError) → refused (number_of e) ≡ layouts.open_of at (length ring)
-      → open_of size table driver device ring ids counts ≡ opened (refused (number_of e)) ids counts
-  opening_refuses e h =
-      let t = layout_refused at (length ring) e h in
-      opening_refused t ∙ ap (λ (a : Answer). opened a ids counts) (sym (h ∙ refuses at (length ring) t))
-
-  pub opening_takes :
-      (l : Layout) → done (values_of l) ≡ layouts.open_of at (length ring)
-      → open_of size table driver device ring ids counts
-      ≡ cond (ltb (length ids) size || ltb (length counts) size) (opened (refused 8) ids counts)
-      (opened (done (record_values (fresh_of l))) (sets ids 0 (up_to size)) (sets counts 0 (replicate size 0)))
-  unfolding open_of
-  opening_takes l h =
-      let t = layout_taken at (length ring) l h in
-      rw (t.0, t.1)

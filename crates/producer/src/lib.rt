@@ -75,20 +75,18 @@ fn fresh(layout: Layout) -> RingProducer
 // The ring and the two tables are no struct: which of them a call may write stands in its signature.
 impl RingProducer {
     // Opening: the tables' first entries are filled, and no byte of the ring is touched.
-    #[tactic(auto, using(crate::proofs::Reset::opening_refuses, crate::proofs::Reset::opening_takes))]
+    #[tactic(auto, unfolding(crate::specs::Fresh::open_of, layout::specs::Layout::open_refusal))]
     pub fn new(
-        size: u16,
-        table: usize,
-        driver: usize,
-        device: usize,
+        layout: Layout,
         ring: &[u8],
         ids: &mut [u16],
         counts: &mut [u16],
     ) -> Result<RingProducer, RingError>
         ensures { opened (opened_answer result) ids.new counts.new
-            ≡ open_of size table driver device ring.now ids.old counts.old }
+            ≡ open_of layout.size layout.table layout.driver layout.device ring.now ids.old counts.old }
     {
-        let layout = Layout::new(size, table, driver, device, ring.len())?;
+        layout.check(ring.len())?;
+        let size = layout.size;
         let slots = usize::from(size);
         if ids.len() < slots || counts.len() < slots {
             return Err(RingError::BadLent);
@@ -216,6 +214,7 @@ impl RingProducer {
         Ok(self.top(ids))
     }
 
+    // What is asked of the record. Both ends have these, each over its own record and definitions (see `turned`).
     pub fn num_free(self) -> Result<u16, RingError>
         ensures { count_answer result ≡ ask_of (bad_record self) (self.free ∷ []) }
     {
@@ -290,6 +289,7 @@ impl RingProducer {
         self.turned(ring, event::ENABLE)
     }
 
+    // Armed at a slot of a round; alike in both ends, as `turned` is.
     #[tactic(auto, unfolding(crate::specs::Notices::notice_of, crate::specs::Notices::shadow_of))]
     pub fn enable_used_notifications_desc(
         self,
@@ -360,7 +360,7 @@ impl RingProducer {
         (turned, Ok(()))
     }
 
-    // The ID on top of the stack of free ones; 0 where there is none.
+    // The ID on top of the stack of free ones; 0 where there is none, as `top_of` has it: `refuse::top` has asked before.
     fn top(self, ids: &[u16]) -> u16
         ensures { result ≡ top_of self ids.now }
     {

@@ -1,8 +1,9 @@
 // Runs a whole input and writes the lines to standard output.
 #![tactic(auto)]
 
-ghost use Rattle.std.specs.Prelude.{◌≡◌, ◌≤◌, length, replicate};
+ghost use Rattle.std.specs.Prelude.{◌≤◌, length};
 
+use base::bytes;
 use replay_stage::memory::{AT_START, Memory, Store};
 use replay_step::{Run, step};
 use text::Line;
@@ -14,19 +15,11 @@ const STDOUT_FILENO: i32 = 1;
 // The longest line: 4,096 addresses and lengths, of 32 bytes with their spaces, and a few numbers more.
 const LINE: usize = 131200;
 
-// N zeros. Their number is proved once, of every N: a proof that sees so long an array written out counts it.
-fn zeroed<const N: usize>() -> [u8; N]
-    ensures value { result ≡ replicate N 0 }
-    ensures len { N ≡ length result }
-{
-    [0; N]
-}
-
 // Reads traces on standard input and writes what the port answers.
 pub fn run_input() {
     // A buffer of fixed size and how much of it was read: programs have no heap.
-    let mut input = zeroed::<262144>();
-    let mut out = zeroed::<262144>();
+    let mut input = bytes::zeros::<262144>();
+    let mut out = bytes::zeros::<262144>();
     let mut memory = memory();
     let n = io::read_full(STDIN_FILENO, &mut input);
     run_all(&input[..n], &mut out, &mut memory);

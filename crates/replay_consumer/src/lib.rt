@@ -1,4 +1,6 @@
 // The consumer's records of a trace: every call of RingConsumer, opening again, its record forged, and checkpoints.
+// (`call`, `forged`, `asks` and `notices` are like the producer's, each over its own end's methods and fields: a trait of them
+// would have to name all of those, and each of its two impls once more.)
 #![tactic(auto)]
 
 mod asks;
@@ -15,7 +17,8 @@ use replay_stage::memory::Memory;
 use text::Line;
 
 // The call that a record asks for, over what is lent, and its line from the op to the last value: the end that is left.
-// The ops are the format's bytes (docs/TRACE.md).
+// An op is the format's byte (docs/TRACE.md), here and in the modules below: an enum of some sixty names would be no plainer
+// than its table. It goes beside the record, whose first byte it is, since each match would else read it again.
 pub fn call(
     c: RingConsumer,
     op: u8,

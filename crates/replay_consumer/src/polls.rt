@@ -31,8 +31,7 @@ pub fn answer(
             (c, r.and(answer::done()))
         }
         _ => {
-            let l = header::geometry(op, record);
-            let opened = RingConsumer::new(l.size, l.table, l.driver, l.device, ring, counts);
+            let opened = RingConsumer::new(header::geometry(op, record), ring, counts);
             // A refused opening leaves the record that was there.
             (opened.unwrap_or(c), opened.and(answer::done()))
         }

@@ -1,17 +1,15 @@
 // The chain that a record submits: addresses and lengths each in a slice of their own, as the ring is lent them.
 use base::bytes::Word;
-use format::input;
+use chain::BufferChain;
+use format::{input, part};
 
-// How many addresses a chain has, and lengths; and how many of its elements are readable.
-#[derive(Clone, Copy)]
-pub struct Counts {
-    pub addrs: u16,
-    pub lens: u16,
-    pub readable: usize,
-}
-
-// The chain into the first entries of both slices.
-pub fn read(op: u8, record: &[u8], addrs: &mut [u64], lens: &mut [u32]) -> Counts {
+// The chain's numbers into the first entries of both slices, and the chain of those.
+pub fn read<'a>(
+    op: u8,
+    record: &[u8],
+    addrs: &'a mut [u64],
+    lens: &'a mut [u32],
+) -> BufferChain<'a> {
     if op == 71 {
         return apart(record, addrs, lens);
     }
@@ -19,26 +17,26 @@ pub fn read(op: u8, record: &[u8], addrs: &mut [u64], lens: &mut [u32]) -> Count
 }
 
 // Elements one after the other.
-fn elements(record: &[u8], addrs: &mut [u64], lens: &mut [u32]) -> Counts {
+fn elements<'a>(record: &[u8], addrs: &'a mut [u64], lens: &'a mut [u32]) -> BufferChain<'a> {
     let n = u16::read(record, 1);
     input::numbers(record, 5, 12, n, addrs);
     input::numbers(record, 13, 12, n, lens);
-    Counts {
-        addrs: n,
-        lens: n,
+    BufferChain {
+        addrs: part::first(addrs, usize::from(n)),
+        lens: part::first(lens, usize::from(n)),
         readable: usize::from(u16::read(record, 3)),
     }
 }
 
 // All addresses and then all lengths, each of their own number.
-fn apart(record: &[u8], addrs: &mut [u64], lens: &mut [u32]) -> Counts {
+fn apart<'a>(record: &[u8], addrs: &'a mut [u64], lens: &'a mut [u32]) -> BufferChain<'a> {
     let n = u16::read(record, 1);
     let m = u16::read(record, 3);
     input::numbers(record, 13, 8, n, addrs);
     input::numbers(record, 13 + 8 * usize::from(n), 4, m, lens);
-    Counts {
-        addrs: n,
-        lens: m,
+    BufferChain {
+        addrs: part::first(addrs, usize::from(n)),
+        lens: part::first(lens, usize::from(m)),
         readable: u64::read(record, 5) as usize,
     }
 }

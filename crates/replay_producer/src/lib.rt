@@ -1,4 +1,5 @@
 // The producer's records of a trace: every call of RingProducer, opening again, and its record forged.
+// (`call`, `forged`, `asks` and `notices` have their like in replay_consumer, whose head says why.)
 #![tactic(auto)]
 
 mod asks;
@@ -16,7 +17,8 @@ use replay_stage::memory::Memory;
 use text::Line;
 
 // The call that a record asks for, over what is lent, and its line from the op to the last value: the end that is left.
-// The ops are the format's bytes (docs/TRACE.md).
+// An op is the format's byte (docs/TRACE.md), here and in the modules below: an enum of some sixty names would be no plainer
+// than its table. It goes beside the record, whose first byte it is, since each match would else read it again.
 pub fn call(
     p: RingProducer,
     op: u8,

@@ -1,8 +1,7 @@
 // Submissions.
 use crate::chains;
 use base::bytes::Word;
-use chain::BufferChain;
-use format::{input, part};
+use format::input;
 use lines::answer::{Answer, Values};
 use producer::{RingProducer, SubmitResult};
 use replay_stage::memory::Memory;
@@ -38,12 +37,7 @@ fn one(p: RingProducer, op: u8, record: &[u8], memory: &mut Memory) -> (RingProd
 fn listed(p: RingProducer, op: u8, record: &[u8], memory: &mut Memory) -> (RingProducer, Answer) {
     let mut addrs = [0u64; 4096];
     let mut lens = [0u32; 4096];
-    let c = chains::read(op, record, &mut addrs, &mut lens);
-    let chain = BufferChain {
-        addrs: part::first(&addrs, usize::from(c.addrs)),
-        lens: part::first(&lens, usize::from(c.lens)),
-        readable: c.readable,
-    };
+    let chain = chains::read(op, record, &mut addrs, &mut lens);
     let ring = memory.region.lent_mut();
     let ids = memory.ids.lent();
     let counts = memory.taken.lent_mut();

@@ -25,8 +25,7 @@ pub fn answer(
             (p, r.and(answer::done()))
         }
         _ => {
-            let l = header::geometry(op, record);
-            let opened = RingProducer::new(l.size, l.table, l.driver, l.device, ring, ids, counts);
+            let opened = RingProducer::new(header::geometry(op, record), ring, ids, counts);
             // A refused opening leaves the record that was there.
             (opened.unwrap_or(p), opened.and(answer::done()))
         }

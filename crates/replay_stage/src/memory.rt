@@ -17,7 +17,8 @@ pub const AT_START: Checkpoint = Checkpoint {
     inflight: 0,
 };
 
-// Entries of which the ends are lent the first so many: all that there are, where the number is larger.
+// Entries of which the ends are lent the first so many: all that there are, where the number is larger. (An array and a
+// number: there is no heap, a later record can lend more again, and the looks and the hash see all entries.)
 #[derive(Drop)]
 pub struct Store<T, const N: usize> {
     pub all: [T; N],
@@ -31,6 +32,7 @@ impl<T, const N: usize> Store<T, N> {
         self.all.split_at(self.lent.min(N)).0
     }
 
+    // What is left once the loan ends is not said: tried, and rattle has no proof of it where part of an array is lent.
     pub fn lent_mut(&mut self) -> &mut [T]
         ensures { result.now ≡ take self.old.lent self.old.all }
     {
@@ -42,7 +44,7 @@ impl<T, const N: usize> Store<T, N> {
 #[derive(Drop)]
 pub struct Memory {
     pub region: Store<u8, 65536>,
-    // How long the trace's region is.
+    // How long the trace's region is: a number beside the most that the format allows, since there is no heap.
     pub length: usize,
     pub ids: Store<u16, 2048>,
     // The producer's counts, and the consumer's.

@@ -24,7 +24,8 @@ pub fn set_out(memory: &mut Memory, header: &[u8], length: usize)
     lend(memory, lend::whole(length));
 }
 
-// The ops 64, 68, 69 and 70, the format's bytes (docs/TRACE.md). None of them makes the region longer.
+// The ops 64, 68, 69 and 70, the format's bytes (docs/TRACE.md). None of them makes the region longer
+// or shorter: later records' places are tested against its length. So each function called here has to promise it too.
 pub fn overwrite(memory: &mut Memory, op: u8, record: &[u8])
     ensures { memory.new.length ≡ memory.old.length }
 {

@@ -28,8 +28,9 @@ pub fn record(
     Some((trace, n))
 }
 
-// The line from the op to the last value, and the ends that the call leaves. The ops are the format's bytes
-// (docs/TRACE.md), which may not change.
+// The line from the op to the last value, and the ends that the call leaves. An op is the format's byte (docs/TRACE.md), here
+// and in the crates below: an enum of some sixty names would be no plainer than its table. It goes with its record, whose
+// first byte it is, so that each match below need not read it again.
 fn call(ends: Ends, record: &[u8], memory: &mut Memory, line: &mut Line<'_>) -> Ends {
     let op = input::byte(record, 0);
     match op {
@@ -54,7 +55,7 @@ fn call(ends: Ends, record: &[u8], memory: &mut Memory, line: &mut Line<'_>) -> 
     ends
 }
 
-// The hash where the record's line has one, and 0 elsewhere.
+// The hash where the record's line has one, and 0 elsewhere: the format has a 0 there (docs/TRACE.md), and no gap.
 fn hashed(trace: Trace, ends: Ends, memory: &Memory) -> u32 {
     if trace.done == trace.records || trace.every != 0 && trace.done % trace.every == 0 {
         return hash::of(ends.producer, ends.consumer, memory);

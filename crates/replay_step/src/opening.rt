@@ -11,7 +11,7 @@ use replay_stage::{hash, stage};
 use text::Line;
 
 // The trace whose header stands at the start of s, and how many bytes that takes; none where it is bad. A refused opening
-// has a line, and a trace whose records are passed over.
+// has a line, with 0 for its hash (docs/TRACE.md), and a trace whose records are passed over.
 pub fn header(s: &[u8], memory: &mut Memory, line: &mut Line<'_>) -> Option<(Trace, usize)> {
     let header = header::read(s)?;
     stage::set_out(memory, s, header.region);
@@ -29,23 +29,13 @@ pub fn header(s: &[u8], memory: &mut Memory, line: &mut Line<'_>) -> Option<(Tra
 }
 
 // The producer first: its refusal is the header's.
-fn open(l: Layout, memory: &mut Memory) -> Result<Ends, RingError> {
+fn open(layout: Layout, memory: &mut Memory) -> Result<Ends, RingError> {
     let producer = RingProducer::new(
-        l.size,
-        l.table,
-        l.driver,
-        l.device,
+        layout,
         memory.region.lent(),
         memory.ids.lent_mut(),
         memory.taken.lent_mut(),
     )?;
-    let consumer = RingConsumer::new(
-        l.size,
-        l.table,
-        l.driver,
-        l.device,
-        memory.region.lent(),
-        memory.held.lent_mut(),
-    )?;
+    let consumer = RingConsumer::new(layout, memory.region.lent(), memory.held.lent_mut())?;
     Ok(Ends { producer, consumer })
 }

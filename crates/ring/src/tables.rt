@@ -13,6 +13,7 @@ pub fn fill<T: Copy>(s: &mut [T], n: u16, v: T)
     ensures { s.new ≡ sets s.old 0 (replicate n v) }
 {
     let n = s.len().min(usize::from(n));
+    // Not by `fill`: it requires of every type that a clone can't fail, which `Copy` alone did not prove.
     for x in s[..n].iter_mut() {
         *x = v;
     }

@@ -6,7 +6,8 @@ use consumer::PolledChain;
 use cursor::RingCursor;
 use say::{number, words};
 
-// "size 4, CASE:", the size as the ring itself says it.
+// "size 4, CASE:", the size as the ring itself says it. (The match on `Ok` and `Err` stands in each function here: one that
+// takes what to print as a closure would need a clause for the closure's own `requires`.)
 pub fn case(size: Result<u16, RingError>, name: &[u8]) {
     match size {
         Ok(n) => sized(n, name),

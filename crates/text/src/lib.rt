@@ -11,7 +11,8 @@ use base::bytes;
 // it once, at the end. (A number and no Option: it is a place of `put_text`, and so no put has to ask for it.)
 pub const LOST: usize = usize::MAX;
 
-// A lent buffer, and the place where it is written next. A clause `lent` says that it is still the same buffer.
+// A lent buffer, and the place where it is written next. Each function that puts text into a line has a clause `lent`: that a
+// `&mut` inside a `&mut` is still the same buffer, a caller learns by a clause alone, and no invariant can say it.
 #[derive(Drop)]
 pub struct Line<'a> {
     pub out: &'a mut [u8],

@@ -11,7 +11,7 @@ pub fn lone(flags: u16, name: &[u8]) -> Result<(), RingError> {
     let mut counts = [0u16; 1];
     let d = Descriptor::new(4096, 16, 0, flags).mark_avail(true);
     desc::store(&mut ring, 0, d.encode())?;
-    let c = RingConsumer::new(1, 0, 16, 20, &ring, &mut counts)?;
+    let c = RingConsumer::new(crate::laid(1), &ring, &mut counts)?;
     polled(c, name, &ring, &mut counts);
     Ok(())
 }
@@ -25,11 +25,12 @@ pub fn four() -> Result<(), RingError> {
     looked(b"NEXT on the fourth", &ring)
 }
 
-// Two readable elements and two writable ones.
+// Two readable elements and two writable ones. (`ring`, `ids` and `counts` stay apart here and in the other cases: each lends
+// arrays of its own sizes, as the ends take them.)
 fn submitted(ring: &mut [u8]) -> Result<(), RingError> {
     let mut ids = [0u16; 4];
     let mut counts = [0u16; 4];
-    let p = RingProducer::new(4, 0, 64, 68, ring, &mut ids, &mut counts)?;
+    let p = RingProducer::new(crate::laid(4), ring, &mut ids, &mut counts)?;
     let addrs = [4096u64, 8192, 12288, 16384];
     let lens = [16u32, 32, 48, 64];
     tell::case(p.len(), b"chain of four submitted");
@@ -57,7 +58,7 @@ fn run_on(ring: &mut [u8], at: usize) -> Result<(), RingError> {
 // A fresh consumer's first poll.
 fn looked(name: &[u8], ring: &[u8]) -> Result<(), RingError> {
     let mut counts = [0u16; 4];
-    let c = RingConsumer::new(4, 0, 64, 68, ring, &mut counts)?;
+    let c = RingConsumer::new(crate::laid(4), ring, &mut counts)?;
     polled(c, name, ring, &mut counts);
     Ok(())
 }

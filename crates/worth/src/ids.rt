@@ -6,7 +6,7 @@ pub fn four() -> Result<(), RingError> {
     let mut ring = [0u8; 72];
     let mut ids = [0u16; 4];
     let mut counts = [0u16; 4];
-    let p = RingProducer::new(4, 0, 64, 68, &ring, &mut ids, &mut counts)?;
+    let p = RingProducer::new(crate::laid(4), &ring, &mut ids, &mut counts)?;
     let p = one(p, b"first submission", &mut ring, &ids, &mut counts);
     let p = one(p, b"second submission", &mut ring, &ids, &mut counts);
     let p = one(p, b"third submission", &mut ring, &ids, &mut counts);

@@ -7,6 +7,19 @@ mod ids;
 mod openings;
 mod twice;
 
+use layout::Layout;
+
+// The table at 0, and behind it the driver's event area and the device's.
+fn laid(size: u16) -> Layout {
+    let end = 16 * usize::from(size);
+    Layout {
+        table: 0,
+        driver: end,
+        device: end + 4,
+        size,
+    }
+}
+
 fn main() {
     tell::missing(chains::lone(desc::NEXT, b"head with NEXT"));
     tell::missing(chains::lone(0, b"head without NEXT"));

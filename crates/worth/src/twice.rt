@@ -8,7 +8,7 @@ pub fn completed() -> Result<(), RingError> {
     let mut ids = [0u16; 4];
     let mut taken = [0u16; 4];
     // one element, whose ID is all that is in flight
-    let p = RingProducer::new(4, 0, 64, 68, &ring, &mut ids, &mut taken)?;
+    let p = RingProducer::new(crate::laid(4), &ring, &mut ids, &mut taken)?;
     let (p, id) = p.submit_one(&mut ring, &ids, &mut taken, 4096, 16, false);
     take(id?, &mut ring)?;
     // the completion, and then the same used slot once more where the producer looks next
@@ -28,7 +28,7 @@ pub fn completed() -> Result<(), RingError> {
 // A consumer polls it, and completes that ID twice.
 fn take(id: u16, ring: &mut [u8]) -> Result<(), RingError> {
     let mut held = [0u16; 4];
-    let c = RingConsumer::new(4, 0, 64, 68, ring, &mut held)?;
+    let c = RingConsumer::new(crate::laid(4), ring, &mut held)?;
     let (c, chain) = c.poll_available(ring, &mut held, &mut [0; 4], &mut [0; 4]);
     chain?;
     let c = complete(c, id, b"consumer completes an ID", ring, &mut held);
