@@ -32,7 +32,8 @@ impl RingError {
         self as u8
     }
 
-    // The refusal of a number. One that no refusal has is taken for the last.
+    // The refusal of a number. One that no refusal has is taken for the last, and not refused as by
+    // `TryFrom`: `leaves` prints what it gives for 0, 10 and 255.
     pub fn numbered(number: u8) -> RingError
         ensures { number_of result ≡ listed number }
     {

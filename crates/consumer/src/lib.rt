@@ -68,8 +68,8 @@ fn fresh(layout: Layout) -> RingConsumer
     }
 }
 
-// A call that takes the record by value hands it back beside its answer, on a refusal as it was. The bytes and the counts are
-// lent to each call anew, as the rules ask, so no struct keeps them together.
+// A call that takes the record by value hands it back beside its answer, on a refusal as it was. The bytes and the counts are no
+// struct: which of them a call may change stands in its signature.
 impl RingConsumer {
     // Opening: the counts' first entries are filled, and no byte of the ring is touched.
     #[tactic(auto, unfolding(crate::specs::Fresh::open_of, layout::specs::Layout::open_refusal))]

@@ -41,6 +41,7 @@ fn tails(
         (length chain.entry.addrs.now - 1) 1 from ring.old }
 {
     let mut c = from;
+    // By number: `element_of` and `put_tails` are said of an element's number.
     for i in 1..chain.addrs.len() {
         let d = element(chain, id, i).mark_avail(c.wrap);
         ring::write(ring, layout.table, c, d);
