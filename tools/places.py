@@ -14,9 +14,13 @@ import sys
 
 def sources(revision):
     """Path and text of every file below crates/*/src, and the paths below crates/*/proofs."""
-    listing = ["git", "ls-tree", "-r", "--name-only", revision] if revision else ["git", "ls-files", "-co", "--exclude-standard"]
-    paths = subprocess.run(listing + ["--", "crates"] if not revision else listing, capture_output=True, text=True, check=True).stdout.split()
-    read = (lambda p: subprocess.run(["git", "show", f"{revision}:{p}"], capture_output=True, text=True).stdout) if revision else (lambda p: open(p).read())
+    if revision:
+        listing = ["git", "ls-tree", "-r", "--name-only", revision]
+        read = lambda p: subprocess.run(["git", "show", f"{revision}:{p}"], capture_output=True, text=True).stdout
+    else:
+        listing = ["git", "ls-files", "-co", "--exclude-standard", "--", "crates"]
+        read = lambda p: open(p, encoding="utf-8").read()
+    paths = subprocess.run(listing, capture_output=True, text=True, check=True).stdout.split()
     src = {}
     for p in paths:
         if re.match(r"crates/\w+/src/.*\.rt$", p):

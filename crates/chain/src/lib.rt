@@ -24,7 +24,7 @@ pub fn readables<T>(s: &[T], readable: usize) -> &[T]
     &s[s.len()..]
 }
 
-// The part behind it, which the device writes.
+// The part after it, which the device writes.
 pub fn writables<T>(s: &[T], readable: usize) -> &[T]
     ensures { slice result.ref_ptr result.now ≡ writables_of (type_size T.row) readable (slice s.entry.ref_ptr s.now) }
 {

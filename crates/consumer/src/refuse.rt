@@ -61,7 +61,7 @@ pub fn all(p: RingConsumer, bytes: usize, counts: usize) -> Result<(), RingError
     Ok(())
 }
 
-// A poll, up to the head that it found: what comes behind is for the walk to say. Four lengths, as the definition has them: a
+// A poll, up to the head that it found: what comes after is for the walk to say. Four lengths, as the definition has them: a
 // struct of them would be built for this one call.
 #[tactic(auto, unfolding(crate::specs::Poll::head_refusal))]
 pub fn head(

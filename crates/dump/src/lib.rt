@@ -16,7 +16,7 @@ use text::Line;
 // Programs run rings of at most so many slots.
 pub const MOST: u16 = 2048;
 
-// The ring's size, and where its table begins in the bytes behind the header.
+// The ring's size, and where its table begins in the bytes after the header.
 #[derive(Clone, Copy, PartialEq, Eq)]
 pub struct Header {
     pub size: u16,

@@ -145,7 +145,8 @@ pub fn of_ring(line: &mut Line<'_>, input: &[u8], ring: Header, k: u16)
 fn behind(line: &mut Line<'_>, input: &[u8], ring: Header, i: u16)
     ensures lent { line.new.out.ghost_name ≡ line.old.out.ghost_name }
     ensures text { written_in line.new
-        ≡ puts (cond (eqb i (whole_of ring.size (length input.now - (6 + ring.table))) && ltb i ring.size) (missing_texts i ring.size) []) (written_in line.old) }
+        ≡ puts (cond (eqb i (whole_of ring.size (length input.now - (6 + ring.table))) && ltb i ring.size)
+        (missing_texts i ring.size) []) (written_in line.old) }
 {
     let bytes = input.len().saturating_sub(6 + ring.table as usize);
     if i == whole(ring.size, bytes) && i < ring.size {

@@ -51,7 +51,7 @@ pub fn slot(s: &[u8]) -> [u8; 16]
     desc::load(s, 1)
 }
 
-// n numbers into the first entries of a lent slice: the first at `from`, each `stride` bytes behind the one before. A place
+// n numbers into the first entries of a lent slice: the first at `from`, each `stride` bytes after the one before. A place
 // past the last there is stays there: no slice reaches so far. (`at` is counted on by hand: the law goes by places, and
 // `step_by` over the bytes says nothing of the zeros past the end.)
 pub fn numbers<W: Word>(s: &[u8], from: usize, stride: usize, n: u16, into: &mut [W])

@@ -4,7 +4,7 @@ ghost use Rattle.base.specs.Answer.{bit};
 
 use base::RingError;
 
-// Up to five values, zeros behind them: a call's answer is kept with no heap, so they are counted.
+// Up to five values, zeros after them: a call's answer is kept with no heap, so they are counted.
 #[derive(Clone, Copy, PartialEq, Eq)]
 pub struct Values {
     pub list: [u64; 5],

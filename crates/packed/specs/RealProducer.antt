@@ -62,7 +62,8 @@ abbrev pub call_of : RealProducer → ProducerCall
 call_of (real_submit_one m) = submit_one (fifth m.entry) (sixth m.entry) (seventh m.entry)
 call_of (real_submit_available m) = submit_available (chain_of (fifth m.entry).addrs.now (fifth m.entry).lens.now (fifth m.entry).readable)
 call_of (real_submit_one_with_notify m) = submit_one_with_notify (fifth m.entry) (sixth m.entry) (seventh m.entry)
-call_of (real_submit_available_with_notify m) = submit_available_with_notify (chain_of (fifth m.entry).addrs.now (fifth m.entry).lens.now (fifth m.entry).readable)
+call_of (real_submit_available_with_notify m) =
+    submit_available_with_notify (chain_of (fifth m.entry).addrs.now (fifth m.entry).lens.now (fifth m.entry).readable)
 call_of (real_poll_used m) = poll_used
 call_of (real_next_id m) = next_id
 call_of (num_free m) = producer_asked producer_num_free

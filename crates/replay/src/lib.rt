@@ -60,7 +60,7 @@ pub fn run_all(input: &[u8], out: &mut [u8], memory: &mut Memory) -> usize
     run.at
 }
 
-// Writes out what there is once a longest line might not fit behind it. Where that fails the next line is lost, which
+// Writes out what there is once a longest line might not fit after it. Where that fails the next line is lost, which
 // ends the run.
 fn make_room(line: &mut Line<'_>) {
     if LINE < line.out.len().saturating_sub(line.at) {

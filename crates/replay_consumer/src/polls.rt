@@ -38,7 +38,7 @@ pub fn answer(
     }
 }
 
-// The op 33. A chain's elements are behind its numbers: as many as were polled.
+// The op 33. A chain's elements are after its numbers: as many as were polled.
 pub fn available(c: RingConsumer, memory: &mut Memory, line: &mut Line<'_>) -> RingConsumer {
     let ring = memory.region.lent_mut();
     let counts = memory.held.lent_mut();

@@ -7,7 +7,7 @@ use replay_stage::memory::Memory;
 use replay_stage::{hash, look, stage};
 use text::Line;
 
-// The trace behind the record that stands at the start of s, and how many bytes that takes; none where it is bad or cut.
+// The trace after the record that stands at the start of s, and how many bytes that takes; none where it is bad or cut.
 // Where the ends are not open a record is passed over, and has no line.
 pub fn record(
     trace: Trace,

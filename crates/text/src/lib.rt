@@ -38,7 +38,7 @@ impl<'a> Line<'a> {
         };
     }
 
-    // A number in decimal and the byte behind it, both or neither.
+    // A number in decimal and the byte after it, both or neither.
     pub fn number(&mut self, x: u64, end: u8)
         ensures lent { self.new.out.ghost_name ≡ self.old.out.ghost_name }
         ensures text { written_in self.new ≡ put_text (number_of end x) (written_in self.old) }
@@ -50,7 +50,7 @@ impl<'a> Line<'a> {
         self.put(&text[..=k]);
     }
 
-    // A number in decimal at the right of a column, behind at most twenty blanks; one that is wider takes the room that it
+    // A number in decimal at the right of a column, after at most twenty blanks; one that is wider takes the room that it
     // needs.
     pub fn right(&mut self, x: u64, width: usize)
         ensures lent { self.new.out.ghost_name ≡ self.old.out.ghost_name }

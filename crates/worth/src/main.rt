@@ -9,7 +9,7 @@ mod twice;
 
 use layout::Layout;
 
-// The table at 0, and behind it the driver's event area and the device's.
+// The table at 0, and after it the driver's event area and the device's.
 fn laid(size: u16) -> Layout {
     let end = 16 * usize::from(size);
     Layout {
