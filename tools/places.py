@@ -28,7 +28,7 @@ def sources(revision):
                 src[p] = read(p)
             except FileNotFoundError:
                 pass
-    return src, [p for p in paths if re.match(r"crates/\w+/proofs/.*(Answers|Invariants)\.antt$", p)]
+    return src, [p for p in paths if re.match(r"crates/\w+/proofs/.+/(Answers|Invariants)\.antt$", p)]
 
 
 def functions(src):

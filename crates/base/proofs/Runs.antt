@@ -7,9 +7,10 @@ use mathlib.Core.List.{List, [], ◌∷◌, ◌++◌, append_assoc, append-nil}
 use mathlib.Core.Bool.{cond}
 use native.Mathlib.Omega.{arith}
 use native.Mathlib.Numerals.{add-one}
+use native.Mathlib.Nat.{add-zero, add-suc, suc-add}
 use lib.Dec.{leb}
 use lib.ListN.{length, get_or, take, drop, set, replicate, length-take, length-drop, length-replicate, drop_of_length-le}
-use lib.Seq.{sets, sets-eq, length-take-le, drop-set-lt, drop-set-add, take-set-le, drop_at, take_at, get_or-take, get_or-drop, length-sets}
+use lib.Seq.{sets, sets-eq, take-suc, length-take-le, drop-set-lt, drop-set-add, take-set-le, drop_at, take_at, get_or-take, get_or-drop, length-sets}
 use lib.Seq.{drop-cons, drop-drop}
 use borrow.Rule.Slice.PartMut.{put_mid}
 use borrow.Author.Tests.{le-leb, lt-leb}
@@ -31,6 +32,21 @@ filled v l i k n e h =
     let there : i + length (replicate n v) ≤ length l = omega (arith, h, length-replicate n v) in
     ap (λ (m : ℕ). put_mid i k l (replicate m v)) (length-take-le k (drop i l) (omega (arith, length-drop i l)) ∙ e)
     ∙ pasted (replicate n v) l i k (omega (arith, e, length-replicate n v)) there
+
+-- one store more at the end of a run
+sets_snoc : (vs l : List ℕ) (i a : ℕ) → set (sets l i vs) (i + length vs) a ≡ sets l i (vs ++ (a ∷ []))
+sets_snoc [] l i a = ap (λ (k : ℕ). set l k a) (add-zero i)
+sets_snoc (v ∷ vs) l i a =
+    ap (λ (k : ℕ). set (sets (set l i v) (suc i) vs) k a) (add-suc i (length vs) ∙ sym (suc-add i (length vs)))
+    ∙ sets_snoc vs (set l i v) (suc i) a
+
+pub sets_more :
+    (vs l : List ℕ) (i k : ℕ) → k < length vs
+    → set (sets l i (take k vs)) (i + k) (get_or vs k 0) ≡ sets l i (take (k + 1) vs)
+sets_more vs l i k h =
+    ap (λ (n : ℕ). set (sets l i (take k vs)) (i + n) (get_or vs k 0)) (sym (length-take-le k vs (omega arith)))
+    ∙ sets_snoc (take k vs) l i (get_or vs k 0)
+    ∙ ap (sets l i) (sym (ap (λ (n : ℕ). take n vs) (add-one k) ∙ take-suc vs k 0 h))
 
 -- a part behind the stores, a part before them, and the part itself
 part_after : (vs l : List ℕ) (i n j : ℕ) → i + length vs ≤ j → take n (drop j (sets l i vs)) ≡ take n (drop j l)

@@ -28,7 +28,7 @@ word_after (p ∷ ps) bs i k =
     ∙ word_after ps bs i k
 
 -- a word of what is left from a place on is the word at that place
-word_drop : (l : List ℕ) (k i w : ℕ) → word_at (drop k l) i w ≡ word_at l (k + i) w
+pub word_drop : (l : List ℕ) (k i w : ℕ) → word_at (drop k l) i w ≡ word_at l (k + i) w
 unfolding word_at
 word_drop l k i zero = refl
 word_drop l k i (suc w) =
@@ -39,6 +39,17 @@ word_drop l k i (suc w) =
 pub word_from : (s t : List ℕ) (k w : ℕ) → t ≡ drop k s → word_at s k w ≡ word_at t 0 w
 word_from s t k w e =
     ap (λ (j : ℕ). word_at s j w) (sym (add-zero k)) ∙ sym (word_drop s k 0 w) ∙ ap (λ (l : List ℕ). word_at l 0 w) (sym e)
+
+-- a word of eight bytes is made of two of four, the lower first
+halves : (bs : List ℕ) → word_at bs 0 8 ≡ word_at bs 0 4 + 256 ^ 4 * word_at bs 4 4
+unfolding word_at
+halves bs = omega arith
+
+pub word_halves : (bs : List ℕ) (i : ℕ) → word_at bs i 8 ≡ word_at bs i 4 + 256 ^ 4 * word_at bs (i + 4) 4
+word_halves bs i =
+    word_from bs (drop i bs) i 8 refl
+    ∙ halves (drop i bs)
+    ∙ ap₂ (λ (x y : ℕ). x + 256 ^ 4 * y) (sym (word_from bs (drop i bs) i 4 refl)) (word_drop bs i 4 4)
 
 -- the word of the bytes of n is n
 pub word_bytes : (k n : ℕ) (rest : List ℕ) → n < 256 ^ k → word_at (bytes_of k n ++ rest) 0 k ≡ n

@@ -99,14 +99,17 @@ pub fn get<const N: usize>(s: &[u8], at: usize) -> [u8; N]
     }
 }
 
-// The bytes b from place `at` on, whatever their number.
+// The bytes b from place `at` on, whatever their number. They are stored one by one in their order, so that what is last in b, as
+// a slot's flags, is stored last: `copy_from_slice` has no order.
 pub fn put(ring: &mut [u8], at: usize, b: &[u8]) -> Result<(), RingError>
     ensures { outcome (answer_of result) ring.new ≡ put_of ring.old at b.now }
 {
     if !pick::ends_by(at, b.len(), ring.len()) {
         return Err(RingError::BadLent);
     }
-    ring[at..at + b.len()].copy_from_slice(b);
+    for (k, &byte) in b.iter().enumerate() {
+        ring[at + k] = byte;
+    }
     Ok(())
 }
 

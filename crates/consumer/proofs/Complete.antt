@@ -3,13 +3,14 @@
 use Prim.Native.Nat.{ℕ, ◌≤◌, ◌<◌}
 use mathlib.Core.Path.{◌≡◌}
 use mathlib.Core.List.{List, []}
+use mathlib.Core.Bool.{◌||◌}
 use native.Mathlib.Omega.{arith}
-use lib.Dec.{leb, eqb}
+use lib.Dec.{ltb, leb, eqb}
 use lib.ListN.{length, get_or, set}
 use borrow.Author.Tests.{eq-eqb, ne_eqb, eqb-false, ltb-false, leb-false}
 use Rattle.base.specs.Answer.{done, refused}
 use Rattle.base.proofs.Tests.{neither, positive}
-use Rattle.base.proofs.Ladder.{passed, both_passed}
+use Rattle.base.proofs.Ladder.{passed, both_passed, cond_lt, both_below}
 use Rattle.consumer.specs.declared.RingConsumer.{RingConsumer}
 use Rattle.consumer.specs.Record.{bad_record, bad_lent}
 use Rattle.consumer.specs.Outcome.{outcome}
@@ -40,6 +41,12 @@ module _ (p : RingConsumer) (bytes id : ℕ) (counts : List ℕ) where
         held = positive (eqb-false n 0 h.0);
         room = ltb-false p.inflight n h.1;
       }
+
+  pub complete_below : complete_refusal p bytes id counts < 9
+  unfolding complete_refusal
+  complete_below =
+      both_below (bad_record p) (bad_lent p bytes (length counts)) _
+      (cond_lt (leb p.layout.size id || (eqb (get_or counts id 0) 0 || ltb p.inflight (get_or counts id 0))) 5 0 (omega arith) (omega arith))
 
 module _ (p : RingConsumer) (ring counts : List ℕ) (id len : ℕ) where
   abbrev no : ℕ

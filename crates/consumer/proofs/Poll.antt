@@ -11,7 +11,7 @@ use lib.Seq.{sets}
 use borrow.Author.Tests.{eq-eqb, ne_eqb, le-ltb, lt-leb, eqb-true, ltb-false, leb-false, not-false}
 use Rattle.base.specs.Answer.{done, refused, bit}
 use Rattle.base.proofs.Tests.{neither}
-use Rattle.base.proofs.Ladder.{passed, both_passed, Rungs, rung, no_rung}
+use Rattle.base.proofs.Ladder.{passed, both_passed, cond_lt, both_below, Rungs, rung, no_rung}
 use Rattle.desc.specs.declared.Descriptor.{Descriptor}
 use Rattle.desc.specs.Flags.{is_avail}
 use Rattle.walk.specs.declared.Walk.{Walk}
@@ -49,6 +49,12 @@ module _ (p : RingConsumer) (bytes : ℕ) (d : Descriptor) (counts addrs lens : 
         },
         e₂.1,
       )
+
+  pub head_below : (rest : ℕ) → rest < 9 → head rest < 9
+  unfolding head_refusal
+  head_below rest h =
+      both_below (bad_record p) (bad_lent p bytes counts || (ltb addrs p.layout.size || ltb lens p.layout.size)) _
+      (cond_lt (not (is_avail d.flags p.avail.wrap)) 3 rest (omega arith) h)
 
   -- read the other way: with nothing of these in its way, a poll goes on behind the head
   pub head_goes :
@@ -96,6 +102,13 @@ module _ (p : RingConsumer) (w : Walk) (id : ℕ) (counts : List ℕ) where
   unfolding walk_refusal
   walk_goes b m i h r =
       simp (b, m, lt-leb p.layout.size id i, eq-eqb (get_or counts id 0) 0 h, le-ltb p.layout.size (p.inflight + w.count) r)
+
+  pub walk_below : walk_refusal p w id counts < 9
+  unfolding walk_refusal
+  walk_below =
+      cond_lt (w.bad || w.more) 2 _ (omega arith)
+      (cond_lt (leb p.layout.size id
+      || (not (eqb (get_or counts id 0) 0) || ltb p.layout.size (p.inflight + w.count))) 5 0 (omega arith) (omega arith))
 
 module _ (p : RingConsumer) (ring counts addrs lens : List ℕ) where
   abbrev no : ℕ

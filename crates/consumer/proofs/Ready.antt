@@ -7,7 +7,7 @@ use native.Mathlib.Omega.{arith}
 use lib.Dec.{leb}
 use borrow.Author.Tests.{ltb-false, leb-false}
 use Rattle.base.proofs.Tests.{neither}
-use Rattle.base.proofs.Ladder.{passed, both_passed}
+use Rattle.base.proofs.Ladder.{passed, both_passed, both_below}
 use Rattle.base.proofs.Refusals.{number_low}
 use Rattle.std.specs.Prelude.{Result, Ok, ⊤}
 use Rattle.base.specs.declared.RingError.{RingError}
@@ -72,6 +72,14 @@ unfolding lent_refusal
 lent_ready p bytes counts e =
     let h = both_passed (bad_record p) (bad_lent p bytes counts) 0 e in
     record { sound = sound p h.0; lent = lent p bytes counts h.1.0 }
+
+pub bytes_below : (p : RingConsumer) (bytes : ℕ) → bytes_refusal p bytes < 9
+unfolding bytes_refusal
+bytes_below p bytes = both_below (bad_record p) (outside p.layout bytes) 0 (omega arith)
+
+pub lent_below : (p : RingConsumer) (bytes counts : ℕ) → lent_refusal p bytes counts < 9
+unfolding lent_refusal
+lent_below p bytes counts = both_below (bad_record p) (bad_lent p bytes counts) 0 (omega arith)
 
 -- a record that is not refused is sound
 pub record_sound : (p : RingConsumer) (r : Result ⊤ RingError) (u : ⊤) → r ≡ Ok u → refusal r ≡ cond (bad_record p) 7 0 → Sound p

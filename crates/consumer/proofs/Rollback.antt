@@ -11,7 +11,7 @@ use lib.ListN.{length}
 use borrow.Author.Tests.{eq-eqb, ne_eqb, eqb-true, ltb-false, leb-false, not-false}
 use Rattle.base.specs.Answer.{done, refused}
 use Rattle.base.proofs.Tests.{neither, split}
-use Rattle.base.proofs.Ladder.{passed, both_passed, Rungs, rung, no_rung}
+use Rattle.base.proofs.Ladder.{passed, both_passed, both_below, Rungs, rung, no_rung}
 use Rattle.cursor.specs.declared.RingCursor.{RingCursor}
 use Rattle.cursor.specs.Cursor.{at, steps}
 use Rattle.undo.specs.Undo.{bad_ids, total_of, sum_of, cleared_of}
@@ -45,6 +45,11 @@ module _ (p : RingConsumer) (cp : Checkpoint) (counts : ℕ) where
         },
         e₁.1.1,
       )
+
+  pub handed_below : handed_refusal p cp counts 0 < 9
+  unfolding handed_refusal
+  handed_below =
+      both_below (bad_record p || (leb p.layout.size cp.avail.head || leb p.layout.size cp.used.head)) (ltb counts p.layout.size) 0 (omega arith)
 
   pub handed_rungs : Rungs (handed_refusal p cp counts)
   unfolding handed_refusal

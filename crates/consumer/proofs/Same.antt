@@ -7,7 +7,7 @@ use mathlib.Core.Bool.{Bool}
 use lib.ListN.{get_or}
 use Rattle.std.specs.Prelude.{Result, ⊤}
 use Rattle.base.specs.declared.RingError.{RingError}
-use Rattle.base.specs.Answer.{bit, answer_by, answer_of}
+use Rattle.base.specs.Answer.{Answer, bit, answer_by, answer_of}
 use Rattle.base.proofs.Refusals.{bit_same, result_same}
 use Rattle.cursor.specs.Cursor.{at}
 use Rattle.layout.specs.Layout.{layout}
@@ -55,18 +55,27 @@ checkpointed_same x y h = result_same checkpoint_values checkpoint_known x y h
 pub opened_same : (x y : Result RingConsumer RingError) → opened_answer x ≡ opened_answer y → x ≡ y
 opened_same x y h = result_same record_values record_known x y h
 
--- ---- a call that hands the record back, and what is seen of it: its result, and what it left of what it was lent
+-- ---- what is seen of a call: its result, and what it left of what it was lent
+
+module _ {R : Type 0} (answer : R → Answer) (end : R → RingConsumer) (same : (x y : R) → answer x ≡ answer y → end x ≡ end y → x ≡ y) where
+  abbrev pub all_seen : R × (List ℕ × List ℕ) → Outcome
+  all_seen x = outcome (answer x.0) (end x.0) x.1.0 x.1.1
+
+  pub all_same : (x y : R × (List ℕ × List ℕ)) → all_seen x ≡ all_seen y → x ≡ y
+  all_same x y h i =
+      (same x.0 y.0 (ap (λ (o : Outcome). o.answer) h) (ap (λ (o : Outcome). o.end) h) i, ((h i).ring, (h i).counts))
+
+-- ---- a call that hands the record back beside its result
 
 module _ {A : Type 0} (f : A → List ℕ) (known : (a b : A) → f a ≡ f b → a ≡ b) where
   pub handed_same : (x y : RingConsumer × Result A RingError) → answer_by f x.1 ≡ answer_by f y.1 → x.0 ≡ y.0 → x ≡ y
   handed_same x y h r i = (r i, result_same f known x.1 y.1 h i)
 
-  abbrev pub all_seen : (RingConsumer × Result A RingError) × (List ℕ × List ℕ) → Outcome
-  all_seen x = outcome (answer_by f x.0.1) x.0.0 x.1.0 x.1.1
+  abbrev pub handed_seen : (RingConsumer × Result A RingError) × (List ℕ × List ℕ) → Outcome
+  handed_seen = all_seen (λ x. answer_by f x.1) (λ x. x.0) handed_same
 
-  pub all_same : (x y : (RingConsumer × Result A RingError) × (List ℕ × List ℕ)) → all_seen x ≡ all_seen y → x ≡ y
-  all_same x y h i =
-      (handed_same x.0 y.0 (ap (λ (o : Outcome). o.answer) h) (ap (λ (o : Outcome). o.end) h) i, ((h i).ring, (h i).counts))
+  pub handed_all : (x y : (RingConsumer × Result A RingError) × (List ℕ × List ℕ)) → handed_seen x ≡ handed_seen y → x ≡ y
+  handed_all = all_same (λ x. answer_by f x.1) (λ x. x.0) handed_same
 
 pub polled_same : (x y : RingConsumer × Result PolledChain RingError) → polled_answer x.1 ≡ polled_answer y.1 → x.0 ≡ y.0 → x ≡ y
 polled_same x y h r = handed_same (λ c. c.id ∷ c.count ∷ c.readable ∷ []) chain_known x y h r
@@ -78,16 +87,16 @@ pub told_same : (x y : RingConsumer × Result Bool RingError) → told_answer x.
 told_same x y h r = handed_same (λ b. bit b ∷ []) yes_known x y h r
 
 abbrev pub answered_seen : (RingConsumer × Result ⊤ RingError) × (List ℕ × List ℕ) → Outcome
-answered_seen = all_seen (λ u. []) (λ u v e. refl)
+answered_seen = handed_seen (λ u. []) (λ u v e. refl)
 
 pub answered_all : (x y : (RingConsumer × Result ⊤ RingError) × (List ℕ × List ℕ)) → answered_seen x ≡ answered_seen y → x ≡ y
-answered_all = all_same (λ u. []) (λ u v e. refl)
+answered_all = handed_all (λ u. []) (λ u v e. refl)
 
 abbrev pub told_seen : (RingConsumer × Result Bool RingError) × (List ℕ × List ℕ) → Outcome
-told_seen = all_seen (λ b. bit b ∷ []) yes_known
+told_seen = handed_seen (λ b. bit b ∷ []) yes_known
 
 pub told_all : (x y : (RingConsumer × Result Bool RingError) × (List ℕ × List ℕ)) → told_seen x ≡ told_seen y → x ≡ y
-told_all = all_same (λ b. bit b ∷ []) yes_known
+told_all = handed_all (λ b. bit b ∷ []) yes_known
 
 abbrev pub changed_seen : (RingConsumer × Result ⊤ RingError) × List ℕ → Changed
 changed_seen x = changed (answer_of x.0.1) x.0.0 x.1

@@ -26,10 +26,14 @@ impl RingCursor {
     }
 
     // To the next slot: the cursor that is left, and the answer.
+    #[tactic(auto, using(crate::proofs::Laws::steps_one), unfolding(crate::specs::Cursor::advance_of))]
     pub fn advance(self, size: u16) -> (RingCursor, Result<(), RingError>)
         ensures { outcome (answer_of result) result.0 ≡ advance_of size 1 self }
     {
-        self.advance_by(size, 1)
+        if self.refuses(size, 1) {
+            return (self, Err(RingError::BadRecord));
+        }
+        (self.stepped(size), Ok(()))
     }
 
     // By n slots.

@@ -162,8 +162,7 @@ impl Descriptor {
     }
 }
 
-// The sixteen bytes b into the slot at `at`. The flags are its last two bytes; loads and stores are sequential here, so
-// that no order of the bytes within the slot is to be kept.
+// The sixteen bytes b into the slot at `at`. The flags are its last two bytes, so they are stored last.
 pub fn store(ring: &mut [u8], at: usize, b: [u8; 16]) -> Result<(), RingError>
     ensures { outcome (answer_of result) ring.new ≡ put_of ring.old at b }
 {

@@ -104,7 +104,7 @@ impl EventSuppression {
         EventSuppression::decode(bytes::get(ring, at))
     }
 
-    // The flags are the last two bytes; as in a slot, no order of the four is to be kept.
+    // The flags are the last two bytes, so they are stored last.
     pub fn write(self, ring: &mut [u8], at: usize) -> Result<(), RingError>
         ensures { outcome (answer_of result) ring.new ≡ put_of ring.old at (encode_of self) }
     {

@@ -11,24 +11,24 @@ use Rattle.std.proofs.lemmas.List.{get_or-map, length-map}
 use Rattle.format.specs.Input.{numbers_at}
 
 -- past the end there are zeros
-word_past : (l : List ℕ) (i w : ℕ) → length l ≤ i → word_at l i w ≡ 0
+pub word_past : (l : List ℕ) (i w : ℕ) → length l ≤ i → word_at l i w ≡ 0
 unfolding word_at
 word_past l i zero h = refl
 word_past l i (suc w) h = omega (arith, get_or-eq_default l 0 h, word_past l (suc i) w (omega arith))
 
 -- so two places are alike that are one, or both past the end
-word_alike : (l : List ℕ) (i j w : ℕ) → min i (length l) ≡ min j (length l) → word_at l i w ≡ word_at l j w
+pub word_alike : (l : List ℕ) (i j w : ℕ) → min i (length l) ≡ min j (length l) → word_at l i w ≡ word_at l j w
 word_alike l i j w e =
     by_lt i (length l)
     (λ h. let g : i ≡ j = omega arith in ap (λ (k : ℕ). word_at l k w) g)
     (λ h. let g : length l ≤ j = omega arith in word_past l i w h ∙ sym (word_past l j w g))
 
-numbers_length : (w : ℕ) (l : List ℕ) (k stride n : ℕ) → length (numbers_at w l k stride n) ≡ n
+pub numbers_length : (w : ℕ) (l : List ℕ) (k stride n : ℕ) → length (numbers_at w l k stride n) ≡ n
 unfolding numbers_at
 numbers_length w l k stride zero = refl
 numbers_length w l k stride (suc n) = ap suc (numbers_length w l (k + stride) stride n)
 
-numbers_at_lem :
+pub numbers_at_lem :
     (w : ℕ) (l : List ℕ) (k stride n j : ℕ) → j < n → get_or (numbers_at w l k stride n) j 0 ≡ word_at l (k + j * stride) w
 unfolding numbers_at
 numbers_at_lem w l k stride zero j h = absurd (omega arith)

@@ -1,16 +1,20 @@
 -- What a geometry that is not refused may count on.
 -- Assumes nothing.
 use Prim.Native.Nat.{ℕ, ◌+◌, ◌%◌, ◌≤◌, ◌<◌}
-use mathlib.Core.Path.{◌≡◌}
+use mathlib.Core.Path.{◌≡◌, ap, ◌∙◌}
 use mathlib.Core.Logic.{◌⊎◌, inl, inr}
 use mathlib.Core.Bool.{Bool, true, false, not, ◌||◌}
 use native.Mathlib.Omega.{arith}
 use lib.Dec.{ltb, leb, eqb}
 use borrow.Author.Tests.{eqb-true, eqb-false, ltb-false, leb-true, not-false}
-use Rattle.base.specs.Answer.{done, refused}
+use lib.ListN.{get_or}
+use Rattle.base.specs.declared.RingError.{RingError}
+use Rattle.base.specs.Refusals.{number_of}
+use Rattle.base.specs.Answer.{Answer, done, refused}
+use Rattle.base.proofs.Refusals.{number_low}
 use Rattle.base.proofs.Tests.{split, neither, positive}
 use Rattle.layout.specs.declared.Layout.{Layout}
-use Rattle.layout.specs.Layout.{apart, table_bytes, bad_layout, outside, values_of, open_of}
+use Rattle.layout.specs.Layout.{layout, apart, table_bytes, bad_layout, outside, values_of, open_of}
 
 -- one of two areas ends by the other's start
 abbrev pub Apart : ℕ → ℕ → ℕ → ℕ → Type 0
@@ -84,3 +88,27 @@ refuses l bytes e = simp e
 pub opens : (l : Layout) (bytes : ℕ) → bad_layout l || outside l bytes ≡ false → open_of l bytes ≡ done (values_of l)
 unfolding open_of
 opens l bytes e = simp e
+
+-- read the other way: what an end that opens learns from the answer
+module _ (l : Layout) (bytes : ℕ) where
+  abbrev bad : Bool
+  bad = bad_layout l || outside l bytes
+
+  pub layout_refused : (e : RingError) → refused (number_of e) ≡ open_of l bytes → bad ≡ true
+  layout_refused e h =
+      split bad (λ t. t) (λ f. absurd (zero_not e (ap (λ (a : Answer). a.number) (h ∙ opens l bytes f))))
+    where
+      zero_not : (d : RingError) → number_of d ≡ 0 → ⊥
+      zero_not d z = omega (arith, number_low d)
+
+  pub layout_taken : (m : Layout) → done (values_of m) ≡ open_of l bytes → (bad ≡ false) × (m ≡ l)
+  layout_taken m h =
+      split bad
+      (λ t. absurd (six (ap (λ (a : Answer). a.number) (h ∙ refuses l bytes t))))
+      (λ f. (f, same (h ∙ opens l bytes f)))
+    where
+      six : ◌≡◌ {A = ℕ} 0 6 → ⊥
+      six z = omega arith
+
+      same : done (values_of m) ≡ done (values_of l) → m ≡ l
+      same g = λ i. layout (get_or (g i).values 0 0) (get_or (g i).values 1 0) (get_or (g i).values 2 0) (get_or (g i).values 3 0)

@@ -1,5 +1,5 @@
--- Each public contract of the crate determines what its function answers, or where it leaves the line and what it leaves in the
--- buffer.
+-- Each public contract of the crate determines what its function answers, or which buffer it leaves the line over, where in it, and
+-- what it leaves there.
 use Prim.Native.Nat.{ℕ}
 use denote.RattleType.{RattleType}
 use denote.Param.Laws.{Laws, IsCopy}
@@ -7,7 +7,8 @@ use mir.Syntax.{Dict, w64}
 use mir.Val.{Fits}
 use Rattle.std.specs.declared.clone.Clone.{Ghosts as Clones}
 use Rattle.std.specs.declared.convert.Into.{Ghosts as Intos}
-use Rattle.base.specs.Determined.{Determined}
+use mathlib.Core.Path.{ap₂}
+use Rattle.base.specs.Determined.{Determined, both}
 use Rattle.base.proofs.Determine.{by_equation}
 use Rattle.text.specs.Line.{written_in}
 use Rattle.lines.specs.declared.answer.Number.{Ghosts as Numbers}
@@ -34,23 +35,23 @@ answer_four_fixed = by_equation _ _ _ (λ κ a r s p. p)
 pub asked_cursor_fixed : Determined asked_cursor.Post (λ r s. r)
 asked_cursor_fixed = by_equation _ _ _ (λ κ a r s p. p)
 
-pub output_last_fixed : Determined output_last.Post (λ r s. written_in s.0.now)
-output_last_fixed = by_equation _ _ _ (λ κ a r s p. p.1)
+pub output_last_fixed : Determined output_last.Post (λ r s. both s.0.now.out.ghost_name (written_in s.0.now))
+output_last_fixed = by_equation _ _ _ (λ κ a r s p. ap₂ both p.0 p.1)
 
-pub output_start_fixed : Determined output_start.Post (λ r s. written_in s.0.now)
-output_start_fixed = by_equation _ _ _ (λ κ a r s p. p.1)
+pub output_start_fixed : Determined output_start.Post (λ r s. both s.0.now.out.ghost_name (written_in s.0.now))
+output_start_fixed = by_equation _ _ _ (λ κ a r s p. ap₂ both p.0 p.1)
 
-pub output_refused_fixed : Determined output_refused.Post (λ r s. written_in s.0.now)
-output_refused_fixed = by_equation _ _ _ (λ κ a r s p. p.1)
+pub output_refused_fixed : Determined output_refused.Post (λ r s. both s.0.now.out.ghost_name (written_in s.0.now))
+output_refused_fixed = by_equation _ _ _ (λ κ a r s p. ap₂ both p.0 p.1)
 
-pub output_answer_fixed : Determined output_answer.Post (λ r s. written_in s.0.now)
-output_answer_fixed = by_equation _ _ _ (λ κ a r s p. p.1)
+pub output_answer_fixed : Determined output_answer.Post (λ r s. both s.0.now.out.ghost_name (written_in s.0.now))
+output_answer_fixed = by_equation _ _ _ (λ κ a r s p. ap₂ both p.0 p.1)
 
-pub output_bad_fixed : Determined output_bad.Post (λ r s. written_in s.0.now)
-output_bad_fixed = by_equation _ _ _ (λ κ a r s p. p.1)
+pub output_bad_fixed : Determined output_bad.Post (λ r s. both s.0.now.out.ghost_name (written_in s.0.now))
+output_bad_fixed = by_equation _ _ _ (λ κ a r s p. ap₂ both p.0 p.1)
 
-pub output_pairs_fixed : Determined output_pairs.Post (λ r s. written_in s.0.now)
-output_pairs_fixed = by_equation _ _ _ (λ κ a r s p. p.1)
+pub output_pairs_fixed : Determined output_pairs.Post (λ r s. both s.0.now.out.ghost_name (written_in s.0.now))
+output_pairs_fixed = by_equation _ _ _ (λ κ a r s p. ap₂ both p.0 p.1)
 
 -- for every number of values
 pub answer_of_fixed : (n : ℕ) (h : Fits w64 n) → Determined (answer_of.Post n h) (λ r s. r)
@@ -63,8 +64,8 @@ module _
   pub asked_value_fixed : Determined (asked_value.Post t l c n nd g d i id) (λ r s. r)
   asked_value_fixed = by_equation _ _ _ (λ κ a r s p. p)
 
-  pub output_value_fixed : Determined (output_value.Post t l c n nd g d i id) (λ r s. written_in s.0.now)
-  output_value_fixed = by_equation _ _ _ (λ κ a r s p. p.1)
+  pub output_value_fixed : Determined (output_value.Post t l c n nd g d i id) (λ r s. both s.0.now.out.ghost_name (written_in s.0.now))
+  output_value_fixed = by_equation _ _ _ (λ κ a r s p. ap₂ both p.0 p.1)
 
-  pub output_values_fixed : Determined (output_values.Post t l c n nd g d i id) (λ r s. written_in s.0.now)
-  output_values_fixed = by_equation _ _ _ (λ κ a r s p. p.1)
+  pub output_values_fixed : Determined (output_values.Post t l c n nd g d i id) (λ r s. both s.0.now.out.ghost_name (written_in s.0.now))
+  output_values_fixed = by_equation _ _ _ (λ κ a r s p. ap₂ both p.0 p.1)

@@ -4,6 +4,7 @@ use Prim.Native.Nat.{ℕ, ◌<◌}
 use mathlib.Core.Path.{◌≡◌}
 use mathlib.Core.List.{List, [], ◌∷◌}
 use mathlib.Core.Bool.{◌||◌}
+use native.Mathlib.Omega.{arith}
 use lib.Dec.{leb}
 use lib.ListN.{length}
 use borrow.Author.Tests.{eq-eqb, ne_eqb, leb-false}
@@ -16,7 +17,7 @@ use Rattle.producer.specs.Record.{bad_record, bytes_refusal}
 use Rattle.producer.specs.Outcome.{changed}
 use Rattle.producer.proofs.Ready.{Sound, sound}
 use Rattle.base.proofs.Tests.{neither}
-use Rattle.base.proofs.Ladder.{both_passed}
+use Rattle.base.proofs.Ladder.{both_passed, both_below}
 use Rattle.ring.specs.Events.{told}
 use Rattle.producer.specs.Notices.{since_refusal, shadow_of, notice_of, since_of}
 
@@ -36,6 +37,10 @@ since_ready p bytes old e =
       old_below = leb-false p.layout.size old.head a.1;
       bytes_whole = within p.layout bytes h.1.0;
     }
+
+pub since_below : (p : RingProducer) (bytes : ℕ) (old : RingCursor) → since_refusal p bytes old < 9
+unfolding since_refusal
+since_below p bytes old = both_below (bad_record p || leb p.layout.size old.head) (outside p.layout bytes) 0 (omega arith)
 
 module _ (p : RingProducer) (ring : List ℕ) (flags : ℕ) (bytes : List ℕ) where
   abbrev no : ℕ

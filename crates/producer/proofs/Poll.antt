@@ -20,7 +20,7 @@ use Rattle.producer.specs.Record.{bad_record, bad_lent}
 use Rattle.producer.specs.Outcome.{outcome}
 use Rattle.producer.specs.Submit.{top_of}
 use Rattle.producer.proofs.Ready.{Sound, sound, Lent, lent}
-use Rattle.base.proofs.Ladder.{passed, both_passed}
+use Rattle.base.proofs.Ladder.{passed, both_passed, cond_lt, both_below}
 use Rattle.ring.specs.Slots.{slot_of}
 use Rattle.producer.specs.Poll.{poll_refusal, polled_of, poll_of, next_refusal, next_of}
 
@@ -54,6 +54,15 @@ module _ (p : RingProducer) (bytes : ℕ) (d : Descriptor) (ids : ℕ) (counts :
         room = ltb-false p.layout.size (p.free + n) r.0;
         stack = leb-false p.layout.size p.height r.1;
       }
+
+  pub poll_below : poll_refusal p bytes d ids counts < 9
+  unfolding poll_refusal
+  poll_below =
+      both_below (bad_record p) (bad_lent p bytes ids (length counts)) _
+      (cond_lt (not (is_used d.flags p.used.wrap)) 3 _ (omega arith)
+      (cond_lt (leb p.layout.size d.id
+      || (eqb (get_or counts d.id 0) 0
+      || (ltb p.layout.size (p.free + get_or counts d.id 0) || leb p.layout.size p.height))) 5 0 (omega arith) (omega arith)))
 
   -- and the used cursor moves by the count
   pub poll_moves :
@@ -107,6 +116,13 @@ module _ (p : RingProducer) (ids counts : List ℕ) where
         id = leb-false p.layout.size (top_of p ids) i.0;
         unheld = eqb-true (get_or counts (top_of p ids) 0) 0 (not-false (eqb (get_or counts (top_of p ids) 0) 0) i.1);
       }
+
+  pub next_below : next_refusal p ids counts < 9
+  unfolding next_refusal
+  next_below =
+      both_below (bad_record p) (ltb (length ids) p.layout.size || ltb (length counts) p.layout.size) _
+      (cond_lt (eqb p.height 0) 4 _ (omega arith)
+      (cond_lt (leb p.layout.size (top_of p ids) || not (eqb (get_or counts (top_of p ids) 0) 0)) 5 0 (omega arith) (omega arith)))
 
   pub next_refused : (next_refusal p ids counts ≡ 0 → ⊥) → next_of p ids counts ≡ refused (next_refusal p ids counts)
   unfolding next_of

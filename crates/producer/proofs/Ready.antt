@@ -6,7 +6,7 @@ use mathlib.Core.Bool.{false, cond}
 use native.Mathlib.Omega.{arith}
 use lib.Dec.{ltb, leb}
 use borrow.Author.Tests.{ltb-false, leb-false}
-use Rattle.base.proofs.Ladder.{passed, both_passed}
+use Rattle.base.proofs.Ladder.{passed, both_passed, both_below}
 use Rattle.base.proofs.Tests.{neither}
 use Rattle.layout.specs.Layout.{bad_layout, outside}
 use Rattle.layout.proofs.Laws.{Laid, laid, Within, within}
@@ -73,6 +73,14 @@ unfolding lent_refusal
 lent_ready p bytes ids counts e =
     let h = both_passed (bad_record p) (bad_lent p bytes ids counts) 0 e in
     record { sound = sound p h.0; lent = lent p bytes ids counts h.1.0 }
+
+pub bytes_below : (p : RingProducer) (bytes : ℕ) → bytes_refusal p bytes < 9
+unfolding bytes_refusal
+bytes_below p bytes = both_below (bad_record p) (outside p.layout bytes) 0 (omega arith)
+
+pub lent_below : (p : RingProducer) (bytes ids counts : ℕ) → lent_refusal p bytes ids counts < 9
+unfolding lent_refusal
+lent_below p bytes ids counts = both_below (bad_record p) (bad_lent p bytes ids counts) 0 (omega arith)
 
 -- a record that is not refused has no more free slots than slots
 pub no_more_free : (p : RingProducer) → ◌≡◌ {A = ℕ} 0 (cond (bad_record p) 7 0) → p.free ≤ p.layout.size

@@ -6,7 +6,7 @@ use mathlib.Core.List.{List, [], ◌∷◌}
 use lib.ListN.{get_or}
 use Rattle.std.specs.Prelude.{Result, ⊤}
 use Rattle.base.specs.declared.RingError.{RingError}
-use Rattle.base.specs.Answer.{bit, answer_by, answer_of}
+use Rattle.base.specs.Answer.{Answer, bit, answer_by, answer_of}
 use Rattle.base.proofs.Refusals.{bit_same, result_same}
 use Rattle.cursor.specs.Cursor.{at}
 use Rattle.layout.specs.Layout.{layout}
@@ -50,19 +50,28 @@ next_same x y h = result_same (λ n. n ∷ []) id_known x y h
 pub opened_same : (x y : Result RingProducer RingError) → opened_answer x ≡ opened_answer y → x ≡ y
 opened_same x y h = result_same record_values record_known x y h
 
--- ---- a call that hands the record back, and what is seen of it: its result, and what it left of what it was lent
+-- ---- what is seen of a call: its result, and what it left of what it was lent
+
+module _ {R : Type 0} (answer : R → Answer) (end : R → RingProducer) (same : (x y : R) → answer x ≡ answer y → end x ≡ end y → x ≡ y) where
+  abbrev pub all_seen : R × (List ℕ × (List ℕ × List ℕ)) → Outcome
+  all_seen x = outcome (answer x.0) (end x.0) x.1.0 x.1.1.0 x.1.1.1
+
+  pub all_same : (x y : R × (List ℕ × (List ℕ × List ℕ))) → all_seen x ≡ all_seen y → x ≡ y
+  all_same x y h i =
+      (same x.0 y.0 (ap (λ (o : Outcome). o.answer) h) (ap (λ (o : Outcome). o.end) h) i, ((h i).ring, ((h i).ids, (h i).counts)))
+
+-- ---- a call that hands the record back beside its result
 
 module _ {A : Type 0} (f : A → List ℕ) (known : (a b : A) → f a ≡ f b → a ≡ b) where
   pub handed_same : (x y : RingProducer × Result A RingError) → answer_by f x.1 ≡ answer_by f y.1 → x.0 ≡ y.0 → x ≡ y
   handed_same x y h r i = (r i, result_same f known x.1 y.1 h i)
 
-  abbrev pub all_seen : (RingProducer × Result A RingError) × (List ℕ × (List ℕ × List ℕ)) → Outcome
-  all_seen x = outcome (answer_by f x.0.1) x.0.0 x.1.0 x.1.1.0 x.1.1.1
+  abbrev pub handed_seen : (RingProducer × Result A RingError) × (List ℕ × (List ℕ × List ℕ)) → Outcome
+  handed_seen = all_seen (λ x. answer_by f x.1) (λ x. x.0) handed_same
 
-  pub all_same :
-      (x y : (RingProducer × Result A RingError) × (List ℕ × (List ℕ × List ℕ))) → all_seen x ≡ all_seen y → x ≡ y
-  all_same x y h i =
-      (handed_same x.0 y.0 (ap (λ (o : Outcome). o.answer) h) (ap (λ (o : Outcome). o.end) h) i, ((h i).ring, ((h i).ids, (h i).counts)))
+  pub handed_all :
+      (x y : (RingProducer × Result A RingError) × (List ℕ × (List ℕ × List ℕ))) → handed_seen x ≡ handed_seen y → x ≡ y
+  handed_all = all_same (λ x. answer_by f x.1) (λ x. x.0) handed_same
 
 pub submitted_same :
     (x y : RingProducer × Result ℕ RingError) → submitted_answer x.1 ≡ submitted_answer y.1 → x.0 ≡ y.0 → x ≡ y
@@ -88,28 +97,28 @@ abbrev pub without_ring : Outcome → Outcome
 without_ring o = outcome o.answer o.end none o.ids o.counts
 
 abbrev pub submitted_seen : (RingProducer × Result ℕ RingError) × (List ℕ × (List ℕ × List ℕ)) → Outcome
-submitted_seen = all_seen (λ n. n ∷ []) id_known
+submitted_seen = handed_seen (λ n. n ∷ []) id_known
 
 pub submitted_all : (x y : (RingProducer × Result ℕ RingError) × (List ℕ × (List ℕ × List ℕ))) → submitted_seen x ≡ submitted_seen y → x ≡ y
-submitted_all = all_same (λ n. n ∷ []) id_known
+submitted_all = handed_all (λ n. n ∷ []) id_known
 
 abbrev pub told_seen : (RingProducer × Result SubmitResult RingError) × (List ℕ × (List ℕ × List ℕ)) → Outcome
-told_seen = all_seen (λ s. s.id ∷ bit s.notify ∷ []) result_known
+told_seen = handed_seen (λ s. s.id ∷ bit s.notify ∷ []) result_known
 
 pub told_all : (x y : (RingProducer × Result SubmitResult RingError) × (List ℕ × (List ℕ × List ℕ))) → told_seen x ≡ told_seen y → x ≡ y
-told_all = all_same (λ s. s.id ∷ bit s.notify ∷ []) result_known
+told_all = handed_all (λ s. s.id ∷ bit s.notify ∷ []) result_known
 
 abbrev pub polled_seen : (RingProducer × Result UsedBuffer RingError) × (List ℕ × (List ℕ × List ℕ)) → Outcome
-polled_seen = all_seen (λ u. u.id ∷ u.len ∷ []) used_known
+polled_seen = handed_seen (λ u. u.id ∷ u.len ∷ []) used_known
 
 pub polled_all : (x y : (RingProducer × Result UsedBuffer RingError) × (List ℕ × (List ℕ × List ℕ))) → polled_seen x ≡ polled_seen y → x ≡ y
-polled_all = all_same (λ u. u.id ∷ u.len ∷ []) used_known
+polled_all = handed_all (λ u. u.id ∷ u.len ∷ []) used_known
 
 abbrev pub answered_seen : (RingProducer × Result ⊤ RingError) × (List ℕ × (List ℕ × List ℕ)) → Outcome
-answered_seen = all_seen (λ u. []) (λ u v e. refl)
+answered_seen = handed_seen (λ u. []) (λ u v e. refl)
 
 pub answered_all : (x y : (RingProducer × Result ⊤ RingError) × (List ℕ × (List ℕ × List ℕ))) → answered_seen x ≡ answered_seen y → x ≡ y
-answered_all = all_same (λ u. []) (λ u v e. refl)
+answered_all = handed_all (λ u. []) (λ u v e. refl)
 
 abbrev pub changed_seen : (RingProducer × Result ⊤ RingError) × List ℕ → Changed
 changed_seen x = changed (answer_of x.0.1) x.0.0 x.1

@@ -3,14 +3,14 @@
 use Prim.Native.Nat.{ℕ, ◌≤◌, ◌<◌}
 use mathlib.Core.Path.{◌≡◌}
 use mathlib.Core.List.{List}
-use mathlib.Core.Bool.{◌||◌}
+use mathlib.Core.Bool.{not, ◌||◌}
 use native.Mathlib.Omega.{arith}
 use lib.Dec.{ltb, leb, eqb}
 use lib.ListN.{length, get_or}
 use borrow.Author.Tests.{eq-eqb, ne_eqb, eqb-true, eqb-false, ltb-false, leb-false, not-false}
 use Rattle.base.specs.Answer.{refused}
 use Rattle.base.proofs.Tests.{neither, positive}
-use Rattle.base.proofs.Ladder.{passed, both_passed}
+use Rattle.base.proofs.Ladder.{passed, both_passed, cond_lt, both_below}
 use Rattle.chain.specs.Chain.{bad_slices}
 use Rattle.chain.proofs.Laws.{Good, good}
 use Rattle.producer.specs.declared.RingProducer.{RingProducer}
@@ -51,6 +51,15 @@ module _ (p : RingProducer) (bytes : ℕ) (ids counts : List ℕ) (n lens readab
         id = leb-false p.layout.size (top_of p ids) i.0;
         unheld = eqb-true (get_or counts (top_of p ids) 0) 0 (not-false (eqb (get_or counts (top_of p ids) 0) 0) i.1);
       }
+
+  pub submit_below : submit_refusal p bytes ids counts n lens readable < 9
+  unfolding submit_refusal
+  submit_below =
+      both_below (bad_record p) (bad_lent p bytes (length ids) (length counts) || bad_slices n lens readable) _
+      (cond_lt (eqb n 0) 1 _ (omega arith)
+      (cond_lt (ltb p.free n) 3 _ (omega arith)
+      (cond_lt (eqb p.height 0) 4 _ (omega arith)
+      (cond_lt (leb p.layout.size (top_of p ids) || not (eqb (get_or counts (top_of p ids) 0) 0)) 5 0 (omega arith) (omega arith)))))
 
 module _ (p : RingProducer) (ring ids counts addrs lens : List ℕ) (readable : ℕ) where
   abbrev no : ℕ

@@ -1,7 +1,7 @@
 // Runs a whole input and writes the lines to standard output.
 #![tactic(auto)]
 
-ghost use Rattle.std.specs.Prelude.{◌≤◌, length};
+ghost use Rattle.std.specs.Prelude.{◌≡◌, ◌≤◌, length};
 
 use base::bytes;
 use replay_stage::memory::{AT_START, Memory, Store};
@@ -20,14 +20,9 @@ pub fn run_input() {
     // A buffer of fixed size and how much of it was read: programs have no heap.
     let mut input = bytes::zeros::<262144>();
     let mut out = bytes::zeros::<262144>();
-    let mut memory = memory();
-    let n = io::read_full(STDIN_FILENO, &mut input);
-    run_all(&input[..n], &mut out, &mut memory);
-}
-
-// Before the first trace. Nothing is lent: a header sets it all out.
-fn memory() -> Memory {
-    Memory {
+    // Before the first trace nothing is lent: a header sets it all out. Built in its place, and not handed over by a function,
+    // which would have the stack hold it twice.
+    let mut memory = Memory {
         region: store(0),
         length: 0,
         ids: store(0),
@@ -36,7 +31,9 @@ fn memory() -> Memory {
         addrs: store(0),
         lens: store(0),
         registers: [AT_START; 256],
-    }
+    };
+    let n = io::read_full(STDIN_FILENO, &mut input);
+    run_all(&input[..n], &mut out, &mut memory);
 }
 
 fn store<T: Copy, const N: usize>(x: T) -> Store<T, N> {
@@ -62,7 +59,9 @@ pub fn run_all(input: &[u8], out: &mut [u8], memory: &mut Memory) -> usize
 
 // Writes out what there is once a longest line might not fit after it. Where that fails the next line is lost, which
 // ends the run.
-fn make_room(line: &mut Line<'_>) {
+fn make_room(line: &mut Line<'_>)
+    ensures { line.new.out.ghost_name ≡ line.old.out.ghost_name }
+{
     if LINE < line.out.len().saturating_sub(line.at) {
         return;
     }

@@ -8,12 +8,15 @@ mod notes;
 mod notices;
 mod polls;
 
+ghost use Rattle.std.specs.Prelude.{◌≡◌};
+ghost use Rattle.replay_stage.specs.Kept.{KeptByConsumer};
+
 use base::bytes::Word;
 use consumer::RingConsumer;
 use format::{forge, input};
 use lines::answer::Answer;
 use lines::{answer, output};
-use replay_stage::memory::Memory;
+use replay_stage::memory::{Memory, first_mut};
 use text::Line;
 
 // The call that a record asks for, over what is lent, and its line from the op to the last value: the end that is left.
@@ -25,7 +28,10 @@ pub fn call(
     record: &[u8],
     memory: &mut Memory,
     line: &mut Line<'_>,
-) -> RingConsumer {
+) -> RingConsumer
+    ensures lent { line.new.out.ghost_name ≡ line.old.out.ghost_name }
+    ensures kept { KeptByConsumer memory.old memory.new }
+{
     if op == 33 {
         return polls::available(c, memory, line);
     }
@@ -34,10 +40,15 @@ pub fn call(
     c
 }
 
-fn answered(c: RingConsumer, op: u8, record: &[u8], memory: &mut Memory) -> (RingConsumer, Answer) {
+fn answered(c: RingConsumer, op: u8, record: &[u8], memory: &mut Memory) -> (RingConsumer, Answer)
+    ensures { KeptByConsumer memory.old memory.new }
+{
     match op {
         34 | 35 | 46 | 75 => polls::answer(c, op, record, memory),
-        36 | 42..=45 => notices::answer(c, op, record, memory.region.lent_mut()),
+        36 | 42..=45 => {
+            let ring = first_mut(&mut memory.region.all, memory.region.lent);
+            notices::answer(c, op, record, ring)
+        }
         37..=39 => (c, asks::answer(c, op)),
         40 => (c, notes::taken(c, record, memory)),
         41 => notes::rolled_back(c, record, memory),

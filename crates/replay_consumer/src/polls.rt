@@ -1,20 +1,20 @@
 // Opening again, polls, completions, reset.
+ghost use Rattle.std.specs.Prelude.{◌≡◌};
+ghost use Rattle.replay_stage.specs.Kept.{KeptByCompletion, KeptByConsumer};
+
 use base::bytes::Word;
 use consumer::RingConsumer;
 use format::{header, part};
 use lines::answer::{Answer, Values};
 use lines::{answer, asked, output};
-use replay_stage::memory::Memory;
+use replay_stage::memory::{Memory, first_mut};
 use text::Line;
 
-pub fn answer(
-    c: RingConsumer,
-    op: u8,
-    record: &[u8],
-    memory: &mut Memory,
-) -> (RingConsumer, Answer) {
-    let ring = memory.region.lent_mut();
-    let counts = memory.held.lent_mut();
+pub fn answer(c: RingConsumer, op: u8, record: &[u8], memory: &mut Memory) -> (RingConsumer, Answer)
+    ensures { KeptByCompletion memory.old memory.new }
+{
+    let ring = first_mut(&mut memory.region.all, memory.region.lent);
+    let counts = first_mut(&mut memory.held.all, memory.held.lent);
     let id = u16::read(record, 1);
     let len = u32::read(record, 3);
     match op {
@@ -39,11 +39,14 @@ pub fn answer(
 }
 
 // The op 33. A chain's elements are after its numbers: as many as were polled.
-pub fn available(c: RingConsumer, memory: &mut Memory, line: &mut Line<'_>) -> RingConsumer {
-    let ring = memory.region.lent_mut();
-    let counts = memory.held.lent_mut();
-    let addrs = memory.addrs.lent_mut();
-    let lens = memory.lens.lent_mut();
+pub fn available(c: RingConsumer, memory: &mut Memory, line: &mut Line<'_>) -> RingConsumer
+    ensures lent { line.new.out.ghost_name ≡ line.old.out.ghost_name }
+    ensures kept { KeptByConsumer memory.old memory.new }
+{
+    let ring = first_mut(&mut memory.region.all, memory.region.lent);
+    let counts = first_mut(&mut memory.held.all, memory.held.lent);
+    let addrs = first_mut(&mut memory.addrs.all, memory.addrs.lent);
+    let lens = first_mut(&mut memory.lens.all, memory.lens.lent);
     let (c, polled) = c.poll_available(ring, counts, addrs, lens);
     match polled {
         Ok(chain) => {

@@ -1,4 +1,6 @@
 // The calls that have no ring: cursors, the notify test, descriptors, event areas.
+ghost use Rattle.std.specs.Prelude.{◌≡◌};
+
 use base::RingError;
 use base::bytes::Word;
 use cursor::RingCursor;
@@ -10,7 +12,9 @@ use lines::{asked, output};
 use text::Line;
 
 // The ops 96 to 106, the format's bytes (docs/TRACE.md): a line from the op to the last value.
-pub fn answer(op: u8, record: &[u8], table: Result<DescTable, RingError>, line: &mut Line<'_>) {
+pub fn answer(op: u8, record: &[u8], table: Result<DescTable, RingError>, line: &mut Line<'_>)
+    ensures { line.new.out.ghost_name ≡ line.old.out.ghost_name }
+{
     match op {
         99 | 100 => encode(op, record, line),
         _ => output::answer(line, op, called(op, record, table)),
@@ -48,7 +52,9 @@ fn told(record: &[u8]) -> Answer {
 }
 
 // Sixteen bytes: more than an answer's values.
-fn encode(op: u8, record: &[u8], line: &mut Line<'_>) {
+fn encode(op: u8, record: &[u8], line: &mut Line<'_>)
+    ensures { line.new.out.ghost_name ≡ line.old.out.ghost_name }
+{
     let d = Descriptor::new(
         u64::read(record, 1),
         u32::read(record, 9),

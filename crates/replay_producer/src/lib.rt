@@ -8,12 +8,15 @@ mod notices;
 mod submits;
 mod tables;
 
+ghost use Rattle.std.specs.Prelude.{◌≡◌};
+ghost use Rattle.replay_stage.specs.Kept.{KeptByProducer};
+
 use base::bytes::Word;
 use format::{forge, input};
 use lines::answer::Answer;
 use lines::{answer, output};
 use producer::RingProducer;
-use replay_stage::memory::Memory;
+use replay_stage::memory::{Memory, first_mut};
 use text::Line;
 
 // The call that a record asks for, over what is lent, and its line from the op to the last value: the end that is left.
@@ -25,18 +28,26 @@ pub fn call(
     record: &[u8],
     memory: &mut Memory,
     line: &mut Line<'_>,
-) -> RingProducer {
+) -> RingProducer
+    ensures lent { line.new.out.ghost_name ≡ line.old.out.ghost_name }
+    ensures kept { KeptByProducer memory.old memory.new }
+{
     let (p, answer) = answered(p, op, record, memory);
     output::answer(line, op, answer);
     p
 }
 
-fn answered(p: RingProducer, op: u8, record: &[u8], memory: &mut Memory) -> (RingProducer, Answer) {
+fn answered(p: RingProducer, op: u8, record: &[u8], memory: &mut Memory) -> (RingProducer, Answer)
+    ensures { KeptByProducer memory.old memory.new }
+{
     match op {
         1..=4 | 71 => submits::answer(p, op, record, memory),
         5 | 6 | 15 | 74 => tables::answer(p, op, record, memory),
         7..=9 => (p, asks::answer(p, op)),
-        10..=14 => notices::answer(p, op, record, memory.region.lent_mut()),
+        10..=14 => {
+            let ring = first_mut(&mut memory.region.all, memory.region.lent);
+            notices::answer(p, op, record, ring)
+        }
         _ => (forged(p, record), answer::done()),
     }
 }

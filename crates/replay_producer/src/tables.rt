@@ -1,19 +1,18 @@
 // The calls that are lent the producer's tables: opening again, completions, the next ID, reset.
+ghost use Rattle.replay_stage.specs.Kept.{KeptByProducer};
+
 use format::header;
 use lines::answer::{Answer, Values};
 use lines::{answer, asked};
 use producer::RingProducer;
-use replay_stage::memory::Memory;
+use replay_stage::memory::{Memory, first_mut};
 
-pub fn answer(
-    p: RingProducer,
-    op: u8,
-    record: &[u8],
-    memory: &mut Memory,
-) -> (RingProducer, Answer) {
-    let ring = memory.region.lent_mut();
-    let ids = memory.ids.lent_mut();
-    let counts = memory.taken.lent_mut();
+pub fn answer(p: RingProducer, op: u8, record: &[u8], memory: &mut Memory) -> (RingProducer, Answer)
+    ensures { KeptByProducer memory.old memory.new }
+{
+    let ring = first_mut(&mut memory.region.all, memory.region.lent);
+    let ids = first_mut(&mut memory.ids.all, memory.ids.lent);
+    let counts = first_mut(&mut memory.taken.all, memory.taken.lent);
     match op {
         5 => {
             let (p, used) = p.poll_used(ring, ids, counts);

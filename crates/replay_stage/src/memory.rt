@@ -32,13 +32,23 @@ impl<T, const N: usize> Store<T, N> {
         self.all.split_at(self.lent.min(N)).0
     }
 
-    // What is left once the loan ends is not said: tried, and rattle has no proof of it where part of an array is lent.
+    // What is left once the loan ends is not said: tried, and rattle has no proof of it where part of an array is lent. Where a
+    // caller has to know that the number stays, it lends the entries alone, by `first_mut`.
     pub fn lent_mut(&mut self) -> &mut [T]
         ensures { result.now ≡ take self.old.lent self.old.all }
     {
         let n = self.lent.min(N);
         self.all.split_at_mut(n).0
     }
+}
+
+// The first n entries, or all that there are, to write. Of the entries alone: a caller who lends these, and not their store,
+// still knows that the number beside them stays.
+pub fn first_mut<T>(s: &mut [T], n: usize) -> &mut [T]
+    ensures { result.now ≡ take n s.old }
+{
+    let n = n.min(s.len());
+    s.split_at_mut(n).0
 }
 
 #[derive(Drop)]

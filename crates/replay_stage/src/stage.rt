@@ -1,5 +1,6 @@
 // What a trace does to its memory past the ring's two ends: it sets it out at its start, and overwrites it.
 ghost use Rattle.std.specs.Prelude.{◌≡◌};
+ghost use Rattle.replay_stage.specs.Kept.{KeptBesideRegion, KeptBesideTables, KeptBesideLoans};
 
 use crate::memory::{AT_START, Memory};
 use crate::region;
@@ -27,7 +28,10 @@ pub fn set_out(memory: &mut Memory, header: &[u8], length: usize)
 // The ops 64, 68, 69 and 70, the format's bytes (docs/TRACE.md). None of them makes the region longer
 // or shorter: later records' places are tested against its length. So each function called here has to promise it too.
 pub fn overwrite(memory: &mut Memory, op: u8, record: &[u8])
-    ensures { memory.new.length ≡ memory.old.length }
+    ensures length { memory.new.length ≡ memory.old.length }
+    ensures bytes { op ≡ 64 → KeptBesideRegion memory.old memory.new }
+    ensures entry { op ≡ 68 → KeptBesideTables memory.old memory.new }
+    ensures loans { op ≡ 69 → KeptBesideLoans memory.old memory.new }
 {
     match op {
         64 => set_bytes(memory, record),
@@ -38,7 +42,7 @@ pub fn overwrite(memory: &mut Memory, op: u8, record: &[u8])
 }
 
 fn lend(memory: &mut Memory, lent: Lent)
-    ensures { memory.new.length ≡ memory.old.length }
+    ensures { KeptBesideLoans memory.old memory.new }
 {
     memory.region.lent = lent.bytes;
     memory.ids.lent = lent.ids;
@@ -49,7 +53,7 @@ fn lend(memory: &mut Memory, lent: Lent)
 }
 
 fn set_bytes(memory: &mut Memory, record: &[u8])
-    ensures { memory.new.length ≡ memory.old.length }
+    ensures { KeptBesideRegion memory.old memory.new }
 {
     let at = u32::read(record, 1) as usize;
     // Never refused: the form's tests have seen to it that the place is within the region.
@@ -57,7 +61,7 @@ fn set_bytes(memory: &mut Memory, record: &[u8])
 }
 
 fn set_entry(memory: &mut Memory, record: &[u8])
-    ensures { memory.new.length ≡ memory.old.length }
+    ensures { KeptBesideTables memory.old memory.new }
 {
     let k = usize::from(u16::read(record, 2));
     let v = u16::read(record, 4);

@@ -1,4 +1,6 @@
 // A trace's records, and the call that each asks for.
+ghost use Rattle.std.specs.Prelude.{◌≡◌};
+
 use crate::{Ends, Trace};
 use format::{form, input};
 use lines::output;
@@ -14,7 +16,10 @@ pub fn record(
     s: &[u8],
     memory: &mut Memory,
     line: &mut Line<'_>,
-) -> Option<(Trace, usize)> {
+) -> Option<(Trace, usize)>
+    ensures lent { line.new.out.ghost_name ≡ line.old.out.ghost_name }
+    ensures length { memory.new.length ≡ memory.old.length }
+{
     let n = form::length(s, memory.length)?;
     let record = s.get(..n)?;
     let mut trace = trace;
@@ -31,7 +36,10 @@ pub fn record(
 // The line from the op to the last value, and the ends that the call leaves. An op is the format's byte (docs/TRACE.md), here
 // and in the crates below: an enum of some sixty names would be no plainer than its table. It goes with its record, whose
 // first byte it is, so that each match below need not read it again.
-fn call(ends: Ends, record: &[u8], memory: &mut Memory, line: &mut Line<'_>) -> Ends {
+fn call(ends: Ends, record: &[u8], memory: &mut Memory, line: &mut Line<'_>) -> Ends
+    ensures lent { line.new.out.ghost_name ≡ line.old.out.ghost_name }
+    ensures length { memory.new.length ≡ memory.old.length }
+{
     let op = input::byte(record, 0);
     match op {
         1..=15 | 66 | 71 | 74 => {

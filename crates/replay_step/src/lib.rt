@@ -57,7 +57,8 @@ impl Run {
 // One header or one record. None where the input has ended or a line did not fit, and where what comes next is bad,
 // which is the run's last line. A run goes on only further on in the input, and never past it.
 pub fn step(run: Run, input: &[u8], memory: &mut Memory, line: &mut Line<'_>) -> Option<Run>
-    ensures { Onward run.at (length input.now) result }
+    ensures lent { line.new.out.ghost_name ≡ line.old.out.ghost_name }
+    ensures onward { Onward run.at (length input.now) result }
 {
     let rest = input.get(run.at..)?;
     let is_record = run.trace.done < run.trace.records;

@@ -5,17 +5,19 @@ use mathlib.Core.Path.{◌≡◌, refl, sym, ap, ap₂, ◌∙◌}
 use mathlib.Core.List.{List, [], ◌∷◌, ◌++◌}
 use native.Mathlib.Omega.{arith}
 use native.Mathlib.Nat.{pow-le-pow_right, add-suc}
-use lib.ListN.{length, length-append, length-drop, length-replicate, take, drop, drop_of_length-le, replicate, get_or-replicate}
-use lib.Seq.{sets, take_all, take-append-add, drop-cons, drop-append-le}
-use borrow.Author.Tests.{le-leb, lt-leb}
-use borrow.Rule.Slice.PartMut.{put_mid}
+use lib.ListN.{length, set, length-append, take, drop, drop_of_length-le}
+use mathlib.Core.Bool.{true, false}
+use lib.Dec.{leb}
+use lib.Seq.{sets, take_all, take-append_seam, get_or-append_seam, drop-append-le}
+use borrow.Author.Tests.{le-leb, lt-leb, leb-true, leb-false}
+use Rattle.std.proofs.lemmas.List.{drop-take}
 use Rattle.std.specs.Prelude.{Result, Ok, Err, ⊤}
 use Rattle.io.specs.Digits.{last_digits, hex_digit_ascii, IsDigitCount}
 use Rattle.base.specs.declared.RingError.{RingError}
-use Rattle.base.specs.Answer.{Outcome, outcome, answer_of}
+use Rattle.base.specs.Answer.{Answer, Outcome, outcome, answer_of}
 use Rattle.base.specs.Bytes.{put_of}
 use Rattle.base.proofs.Refusals.{not_done}
-use Rattle.base.proofs.Runs.{put_fits, put_short}
+use Rattle.base.proofs.Runs.{put_fits, put_short, sets_more}
 use Rattle.base.proofs.Tests.{by_lt}
 use Rattle.text.specs.Text.{decimal_of, number_of, blanks_of, right_of, hex_of, Written, written, LOST, put_text, puts}
 use Rattle.text.proofs.Decimal.{fewest_digits, digits_length}
@@ -33,6 +35,16 @@ module _ (text l : List ℕ) (n : ℕ) where
 -- text and one character behind it
 pub snoc_length : (text : List ℕ) (x : ℕ) → length (text ++ (x ∷ [])) ≡ length text + 1
 snoc_length text x = length-append text (x ∷ [])
+
+pub sets_snoc : (text l : List ℕ) (n x : ℕ) → set (sets l n text) (n + length text) x ≡ sets l n (text ++ (x ∷ []))
+sets_snoc text l n x =
+    let vs = text ++ (x ∷ []) in
+    let k = length text in
+    ap₂ (λ (t : List ℕ) (y : ℕ). set (sets l n t) (n + k) y)
+    (sym (take-append_seam text (x ∷ [])))
+    (sym (get_or-append_seam text x [] 0))
+    ∙ sets_more vs l n k (omega (arith, snoc_length text x))
+    ∙ ap (sets l n) (take_all (k + 1) vs (omega (arith, snoc_length text x)))
 
 -- what `base::bytes::put` answered, and what it left
 module _ (text l l' : List ℕ) (n : ℕ) {r : Result ⊤ RingError} (left : outcome (answer_of r) l' ≡ put_of l n text) where
@@ -56,20 +68,33 @@ module _ (text l l' : List ℕ) (n : ℕ) {r : Result ⊤ RingError} (left : out
       (λ h. ap (λ (o : Outcome). written LOST o.bytes) (answered e ∙ put_short l n text h) ∙ sym (text_lost text l n h))
       (λ h. not_done x [] (sym (ap (λ (o : Outcome). o.answer) (answered e ∙ put_fits l n text h))))
 
--- the k digits of x that `io::decimal` gives, copied over the characters that are behind them
-pub number_text :
-    (k x end : ℕ) (out ys : List ℕ) → k ≤ 20 → IsDigitCount 10 1 x k → take k out ≡ last_digits 10 k x → ys ≡ take k out
-    → take (k + 1) (put_mid 0 k (replicate 21 end) ys) ≡ number_of end x
-number_text k x end out ys few fewest d e =
-    let spelt : ys ≡ last_digits 10 k x = e ∙ d in
-    let long : length ys ≡ k = ap length spelt ∙ digits_length 10 k x in
-    let there : k < length (replicate 21 end) = omega (arith, length-replicate {A = ℕ} 21 end) in
-    ap (λ (m : ℕ). take (m + 1) (ys ++ drop k (replicate 21 end))) (sym long)
-    ∙ take-append-add ys (drop k (replicate 21 end)) 1
-    ∙ ap (λ (t : List ℕ). ys ++ take 1 t) (drop-cons (replicate 21 end) k end there)
-    ∙ ap₂ (λ (y : List ℕ) (c : ℕ). y ++ (c ∷ []))
-    (spelt ∙ fewest_digits 20 k x few fewest)
-    (get_or-replicate 21 k end end (omega arith))
+-- the k digits of x that `io::decimal` gives, and a character behind them
+module _ (l : List ℕ) (n k x end : ℕ) (few : k ≤ 20) (fewest : IsDigitCount 10 1 x k) where
+  spelt : last_digits 10 k x ≡ decimal_of x
+  spelt = fewest_digits 20 k x few fewest
+
+  long : length (number_of end x) ≡ k + 1
+  long = snoc_length (decimal_of x) end ∙ ap (λ (t : List ℕ). length t + 1) (sym spelt) ∙ ap (λ (m : ℕ). m + 1) (digits_length 10 k x)
+
+  pub number_put :
+      (t l' : List ℕ) {a : Answer} → t ≡ last_digits 10 k x → leb (n + (k + 1)) (length l) ≡ true → outcome a l' ≡ put_of l n t
+      → written (n + (k + 1)) (set l' (n + k) end) ≡ put_text (number_of end x) (written n l)
+  number_put t l' d f e =
+      let h : n + (k + 1) ≤ length l = leb-true (n + (k + 1)) (length l) f in
+      let m : length t ≡ k = ap length d ∙ digits_length 10 k x in
+      let p : l' ≡ sets l n t = ap (λ (o : Outcome). o.bytes) (e ∙ put_fits l n t (omega arith)) in
+      let q : n + (k + 1) ≡ n + length (number_of end x) = omega (arith, long) in
+      let g : n + length (number_of end x) ≤ length l = omega (arith, long) in
+      ap₂ written q
+      (ap₂ (λ (y : List ℕ) (i : ℕ). set y (n + i) end) p (sym m)
+      ∙ sets_snoc t l n end
+      ∙ ap (λ (y : List ℕ). sets l n (y ++ (end ∷ []))) (d ∙ spelt))
+      ∙ sym (text_fits (number_of end x) l n g)
+
+  pub number_lost : leb (n + (k + 1)) (length l) ≡ false → written LOST l ≡ put_text (number_of end x) (written n l)
+  number_lost f =
+      let h : length l < n + (k + 1) = leb-false (n + (k + 1)) (length l) f in
+      sym (text_lost (number_of end x) l n (omega (arith, long)))
 
 -- ---- texts, one behind the other
 
@@ -118,17 +143,16 @@ last_of b d (suc m) n =
     ∙ drop-append-le d (last_digits b (d + m) (n / b)) (hex_digit_ascii (n % b) ∷ []) (omega (arith, digits_length b (d + m) (n / b)))
     ∙ ap (λ (t : List ℕ). t ++ (hex_digit_ascii (n % b) ∷ [])) (last_of b d m (n / b))
 
--- the last digits of the sixteen that `io::hex` gives
+-- the last digits of those that `io::hex` gives, however many they are
 pub hex_last :
-    (k digits m x : ℕ) (out : List ℕ) → m ≡ min digits 16 → length out ≡ 16 → x < 16 ^ 16 → IsDigitCount 16 16 x k
-    → take k out ≡ last_digits 16 k x → take (16 - (16 - m)) (drop (16 - m) out) ≡ hex_of (min digits 16) x
+    (k digits m x : ℕ) (out : List ℕ) → m ≡ min digits 16 → m ≤ k → take k out ≡ last_digits 16 k x
+    → take (k - (k - m)) (drop (k - m) out) ≡ hex_of (min digits 16) x
 unfolding hex_of
-hex_last k digits m x out e long h w d =
-    let all : k ≡ 16 = as_wide 16 k x (omega arith) h w in
-    let few : m ≤ 16 = omega (arith, e) in
-    let there : (16 - m) + m ≡ 16 = omega (arith, few) in
-    take_all (16 - (16 - m)) (drop (16 - m) out) (omega (arith, length-drop (16 - m) out))
-    ∙ ap (drop (16 - m))
-    (sym (take_all k out (omega (arith, all))) ∙ d ∙ ap (λ (j : ℕ). last_digits 16 j x) (all ∙ sym there))
-    ∙ last_of 16 (16 - m) m x
+hex_last k digits m x out e few d =
+    let there : (k - m) + m ≡ k = omega (arith, few) in
+    ap (λ (j : ℕ). take j (drop (k - m) out)) (omega (arith, few))
+    ∙ sym (drop-take (k - m) m out)
+    ∙ ap (λ (j : ℕ). drop (k - m) (take j out)) there
+    ∙ ap (drop (k - m)) (d ∙ ap (λ (j : ℕ). last_digits 16 j x) (sym there))
+    ∙ last_of 16 (k - m) m x
     ∙ ap (λ (j : ℕ). last_digits 16 j x) e

@@ -5,7 +5,7 @@ ghost use Rattle.std.specs.Prelude.{◌≡◌, min};
 ghost use Rattle.text.specs.Text.{number_of, blanks_of, right_of, hex_of, put_text, puts, written};
 ghost use Rattle.text.specs.Line.{written_in};
 
-use base::bytes;
+use base::{bytes, pick};
 
 // The place that stands for text that did not fit. Nothing is put there, so it stays: whoever writes the buffer out sees
 // it once, at the end. (A number and no Option: it is a place of `put_text`, and so no put has to ask for it.)
@@ -45,9 +45,14 @@ impl<'a> Line<'a> {
     {
         let mut digits = [0u8; 20];
         let k = io::decimal(x, &mut digits);
-        let mut text = [end; 21];
-        text[..k].copy_from_slice(&digits[..k]);
-        self.put(&text[..=k]);
+        if !pick::ends_by(self.at, k + 1, self.out.len()) {
+            self.at = LOST;
+            return;
+        }
+        // never refused: the test above has seen that it fits
+        let _ = bytes::put(self.out, self.at, &digits[..k]);
+        self.out[self.at + k] = end;
+        self.at += k + 1;
     }
 
     // A number in decimal at the right of a column, after at most twenty blanks; one that is wider takes the room that it
@@ -75,8 +80,10 @@ impl<'a> Line<'a> {
         ensures lent { self.new.out.ghost_name ≡ self.old.out.ghost_name }
         ensures text { written_in self.new ≡ put_text (hex_of (min digits 16) x) (written_in self.old) }
     {
+        let wanted = digits.min(16);
         let mut all = [0u8; 16];
-        io::hex(x, 16, &mut all);
-        self.put(&all[16 - digits.min(16)..]);
+        // more than are wanted where x has more, and one where none is
+        let k = io::hex(x, wanted, &mut all);
+        self.put(&all[k - wanted..k]);
     }
 }

@@ -3,7 +3,8 @@
 use Rattle.std.proofs.Common.{◌≡◌, ℕ, suc, ◌+◌, ◌-◌, ◌<◌, ◌≤◌, Bool, true, false, cond, ◌||◌, eqb, ltb, leb, List, [], ◌∷◌, ◌++◌, length, get_or, take, drop, set, sym, refl, ap, ◌∙◌, add-one, arith, drop_of_length-le, drop-cons, get_or-set_other, get_or-set_same, set-set}
 use lib.Seq.{set_comm, set_out, set-get_or, take-suc}
 use Rattle.base.specs.Answer.{Answer, done, refused}
-use Rattle.base.proofs.Tests.{by_lt, by_eq}
+use borrow.Author.Tests.{eqb-false, ltb-false}
+use Rattle.base.proofs.Tests.{by_lt, by_eq, neither, positive}
 use Rattle.undo.specs.Undo.{mark, flip, flipped}
 
 -- twice is as before
@@ -60,6 +61,13 @@ flipped_marked t ids k h l =
 -- the first pass stops at an ID, where `left` is left of what the sum may be
 unfoldable pub stops : ℕ → List ℕ → ℕ → ℕ → Bool
 stops size t left id = leb size id || (eqb (get_or t id 0) 0 || ltb left (get_or t id 0))
+
+-- so each turn of it takes one slot at least, and no more than is left
+pub goes : (size : ℕ) (t : List ℕ) (left id : ℕ) → stops size t left id ≡ false → (0 < get_or t id 0) × (get_or t id 0 ≤ left)
+unfolding stops
+goes size t left id e =
+    let b = neither (eqb (get_or t id 0) 0) _ (neither (leb size id) _ e).1 in
+    (positive (eqb-false (get_or t id 0) 0 b.0), ltb-false left (get_or t id 0) b.1)
 
 -- what the first pass answers
 unfoldable pub walked : ℕ → ℕ → List ℕ → ℕ → List ℕ → Answer

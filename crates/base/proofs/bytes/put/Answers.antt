@@ -1,13 +1,13 @@
--- `base::bytes::put` meets its contract: the test is the definition's, and the part that is copied over is the stores of `sets`.
-use Prim.Native.Nat.{◌+◌, ◌-◌}
+-- `base::bytes::put` meets its contract: the test is the definition's, and the bytes stored one by one are the stores of `sets`.
+use Prim.Native.Nat.{ℕ, ◌+◌}
 use mathlib.Core.Path.{sym, ap, ◌∙◌}
-use mathlib.Core.List.{[]}
+use mathlib.Core.List.{List, []}
 use native.Mathlib.Omega.{arith}
 use borrow.Author.Tests.{leb-true, leb-false}
-use borrow.Rule.Slice.PartMut.{put_mid}
-use lib.ListN.{length}
+use lib.ListN.{length, take, get_or, set}
+use lib.Seq.{sets, take-length}
 use Rattle.base.specs.Answer.{outcome, done}
-use Rattle.base.proofs.Runs.{put_fits, put_short, pasted}
+use Rattle.base.proofs.Runs.{put_fits, put_short, sets_more}
 use Rattle.base.proofs.bytes.put.Goals as goal
 
 pub returns-then-not-ends_by : goal.returns-then-not-ends_by
@@ -16,11 +16,22 @@ returns-then-not-ends_by c =
     sym (put_short a.ring.now a.at a.b.now
     (leb-false (a.at + length a.b.now) (length a.ring.now) (sym c.ends_by.ensures ∙ c.if-not-ends_by.true)))
 
+-- the next byte is stored
+pub loop-k-preserved : goal.loop-k-preserved
+loop-k-preserved c =
+    let a = c.args in
+    let k = c.loop-k.k in (
+      omega arith,
+      ap (λ (l : List ℕ). set l (a.at + k) (get_or a.b.now k 0)) c.loop-k.invariant.1
+          ∙ sets_more a.b.now a.ring.now a.at k (omega arith),
+    )
+
 pub returns : goal.returns
 returns c =
     let a = c.args in
     let fits = leb-true (a.at + length a.b.now) (length a.ring.now) (sym c.ends_by.ensures ∙ c.if-not-ends_by.false) in
     ap (outcome (done []))
-    (ap (put_mid a.at (a.at + length a.b.now - a.at) a.ring.now) c.copy_from_slice.ensures.after
-    ∙ pasted a.b.now a.ring.now a.at (a.at + length a.b.now - a.at) (omega arith) fits)
+    (c.loop-k.invariant.1
+    ∙ ap (λ (k : ℕ). sets a.ring.now a.at (take k a.b.now)) (omega arith)
+    ∙ ap (sets a.ring.now a.at) (take-length a.b.now))
     ∙ sym (put_fits a.ring.now a.at a.b.now fits)
