@@ -1,4 +1,4 @@
--- What each end leaves as it is, of what a trace lends: of the memory before its call, and the one after.
+-- What a call of an end, or a record of a trace, leaves as it is of the memory: of the one before it, and the one after.
 use Rattle.std.specs.Prelude.{◌≡◌}
 use Rattle.replay_stage.specs.declared.memory.Memory.{Memory}
 
@@ -26,8 +26,8 @@ KeptByProducer old new =
 abbrev pub KeptByConsumer : Memory → Memory → Type 0
 KeptByConsumer old new = SameLent old new × (new.ids ≡ old.ids) × (new.taken ≡ old.taken)
 
--- what a record of a trace leaves that writes the region's bytes (op 64), an entry of a table (68; opening, which fills tables,
--- leaves the same), or what is lent (69)
+-- what is left by a record that writes the region's bytes (op 64), an entry of a table (op 68, and opening, which fills tables), or
+-- how much is lent (op 69)
 abbrev pub KeptBesideRegion : Memory → Memory → Type 0
 KeptBesideRegion old new =
     SameLent old new
@@ -68,7 +68,7 @@ KeptByCompletion old new = KeptByConsumer old new × (new.addrs ≡ old.addrs) �
 abbrev pub KeptByRollback : Memory → Memory → Type 0
 KeptByRollback old new = KeptByCompletion old new × (new.region ≡ old.region)
 
--- a checkpoint writes a register alone
+-- a checkpoint writes a register alone, and so does the op 70
 abbrev pub KeptByCheckpoint : Memory → Memory → Type 0
 KeptByCheckpoint old new =
     KeptByConsumer old new

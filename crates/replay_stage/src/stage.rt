@@ -1,6 +1,6 @@
 // What a trace does to its memory past the ring's two ends: it sets it out at its start, and overwrites it.
 ghost use Rattle.std.specs.Prelude.{◌≡◌};
-ghost use Rattle.replay_stage.specs.Kept.{KeptBesideRegion, KeptBesideTables, KeptBesideLoans};
+ghost use Rattle.replay_stage.specs.Kept.{KeptBesideRegion, KeptBesideTables, KeptBesideLoans, KeptByCheckpoint};
 
 use crate::memory::{AT_START, Memory};
 use crate::region;
@@ -26,12 +26,14 @@ pub fn set_out(memory: &mut Memory, header: &[u8], length: usize)
 }
 
 // The ops 64, 68, 69 and 70, the format's bytes (docs/TRACE.md). None of them makes the region longer
-// or shorter: later records' places are tested against its length. So each function called here has to promise it too.
+// or shorter: later records' places are tested against its length. So each function called here has to promise it too. What
+// else each leaves is in specs/Kept.antt.
 pub fn overwrite(memory: &mut Memory, op: u8, record: &[u8])
     ensures length { memory.new.length ≡ memory.old.length }
     ensures bytes { op ≡ 64 → KeptBesideRegion memory.old memory.new }
     ensures entry { op ≡ 68 → KeptBesideTables memory.old memory.new }
     ensures loans { op ≡ 69 → KeptBesideLoans memory.old memory.new }
+    ensures register { op ≡ 70 → KeptByCheckpoint memory.old memory.new }
 {
     match op {
         64 => set_bytes(memory, record),
